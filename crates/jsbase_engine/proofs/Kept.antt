@@ -22,13 +22,13 @@ use Rattle.swc_tree_grammar.specs.Places.{is_open}
 use Rattle.swc_base_resolver_program.specs.Marked.{MarksOk}
 use Rattle.swc_base_fixer_program.specs.Answers.{answer_to}
 use Rattle.swc_base_fixer.specs.Promises.{AnswersKeepPromises}
-use Rattle.swc_ecma_transforms_base_laws.specs.Sources.{IsSource}
-use Rattle.swc_ecma_transforms_base_laws.specs.Headline.{ChainingKeepsForms, ChainingKeepsSources}
+use Rattle.swc_base_mangle_laws.specs.Lower.swc_ecma_transforms_base_laws.specs.Sources.{IsSource}
+use Rattle.swc_base_mangle_laws.specs.Lower.swc_ecma_transforms_base_laws.specs.Headline.{ChainingKeepsForms, ChainingKeepsSources}
 use Rattle.swc_base_rename_program.specs.Renamed.{IsHygienic}
 use Rattle.swc_base_rename_substitution.specs.declared.config.Config.{Config}
 use Rattle.swc_base_covers.specs.Covered.{IsCovered, Tells}
 use Rattle.swc_base_mangle_laws.specs.Laws.{MangledSourcesAreKept, MangledSourcesKeepForms}
-use Rattle.swc_ecma_transforms_base_settled_laws.specs.Settled.{ChainChangesNothing, IsAnswer}
+use Rattle.swc_ecma_transforms_base_apart_laws.specs.Lower.swc_ecma_transforms_base_settled_laws.specs.Settled.{ChainChangesNothing, IsAnswer}
 use Rattle.jsbase_form.proofs.Successes.{bound}
 use Rattle.jsbase_reader.specs.declared.envelope.Envelope.{Envelope}
 use Rattle.jsbase_reader.specs.Envelopes.{envelope_in, envelope_in_text, text_in}

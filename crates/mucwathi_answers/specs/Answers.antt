@@ -27,11 +27,11 @@ use Rattle.mucwathi_faults.specs.declared.fault.RunFault.TheVariants.{Refused}
 use Rattle.mucwathi_lists.specs.declared.changes.Change.{Change}
 use Rattle.mucwathi_lists.specs.declared.lists.FreeName.{FreeName}
 use Rattle.mucwathi_lists.specs.Listed.{changes_listed, lost_listed, names_listed}
-use Rattle.mucwathi_looks.specs.Changes.{HasChanges}
-use Rattle.mucwathi_looks.specs.Looks.{IsUnlooked}
-use Rattle.mucwathi_looks.specs.Marked.{HasSigns}
-use Rattle.mucwathi_looks.specs.Names.{HasFreeNames}
-use Rattle.mucwathi_looks.specs.Trees.{HasTree}
+use Rattle.mucwathi_marked.specs.Lower.mucwathi_looks.specs.Changes.{HasChanges}
+use Rattle.mucwathi_marked.specs.Lower.mucwathi_looks.specs.Looks.{IsUnlooked}
+use Rattle.mucwathi_marked.specs.Lower.mucwathi_looks.specs.Marked.{HasSigns}
+use Rattle.mucwathi_marked.specs.Lower.mucwathi_looks.specs.Names.{HasFreeNames}
+use Rattle.mucwathi_marked.specs.Lower.mucwathi_looks.specs.Trees.{HasTree}
 use Rattle.mucwathi_map.specs.Map.{IsMap}
 use Rattle.mucwathi_show.specs.Shown.{IsShown as IsShownPage}
 use Rattle.mucwathi_show.specs.Unshown.{IsUnshown as IsPageUnshown}

@@ -17,8 +17,8 @@ use mucwathi_commands::{
     rewrite_with_comments,
 };
 use mucwathi_lists::{Change, list_renamed, tell_lost};
-use mucwathi_looks::list_changes;
 use mucwathi_map::source_map;
+use mucwathi_marked::mucwathi_looks::list_changes;
 use mucwathi_report::{Named, tell_cover};
 use std::alloc::{AllocError, Global};
 use swc_tree_marks::PassError;

@@ -8,7 +8,7 @@ use Rattle.swc_base_alpha.specs.Verdict.{IsCleanProgram, IsJudgeRefusal}
 use Rattle.swc_base_plain_form.proofs.Fitting.{plain_fits}
 use Rattle.swc_base_plain_form.proofs.Kept.{clean}
 use Rattle.text_parser.specs.declared.programs.Goal.{Goal}
-use Rattle.text_source.specs.Texts.{class_of}
+use Rattle.mucwathi_order.specs.Lower.text_source.specs.Texts.{class_of}
 use Rattle.mucwathi_faults.specs.declared.fault.JudgeFault.{JudgeFault}
 use Rattle.mucwathi_faults.specs.declared.fault.JudgeFault.TheVariants.{After, Before, Refused}
 use Rattle.mucwathi_commands.specs.Judged.{IsAfterFault, IsBeforeFault, IsJudgeFault, IsRead, IsSaid, IsUnsaid, as_compared}

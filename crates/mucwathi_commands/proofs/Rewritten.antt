@@ -13,7 +13,7 @@ use Rattle.text_edit.specs.Alike.{alike}
 use Rattle.text_edit.specs.Edits.{IsEdited, IsRenamed}
 use Rattle.text_pieces.specs.Pieces.{pieces}
 use Rattle.text_pieces.specs.Tokens.{Piece}
-use Rattle.text_source.specs.Texts.{Tells, comments_of}
+use Rattle.mucwathi_order.specs.Lower.text_source.specs.Texts.{Tells, comments_of}
 use Rattle.mucwathi_order.specs.declared.order.Order.{Order}
 use Rattle.mucwathi_order.specs.declared.order.Style.{Style}
 use Rattle.mucwathi_order.specs.declared.order.Style.TheVariants as style

@@ -11,7 +11,7 @@ use Rattle.text_lexer.specs.declared.blank.Comments.{Comments}
 use Rattle.text_pieces.specs.Pieces.{framed_pieces, pieces}
 use Rattle.text_printer.specs.declared.lay_out.Layout.{Layout}
 use Rattle.text_printer.specs.declared.lay_out.Layout.TheVariants as layout
-use Rattle.text_source.specs.Texts.{comments_of}
+use Rattle.mucwathi_order.specs.Lower.text_source.specs.Texts.{comments_of}
 use Rattle.mucwathi_order.specs.Styles.{layout_of}
 use Rattle.mucwathi_order.specs.declared.order.Order.{Order}
 use Rattle.mucwathi_commands.specs.Written.{IsRewritten}

@@ -3,3 +3,4 @@ pub mod Written
 pub mod Faults
 pub mod Judged
 pub mod Looks
+pub mod Lower

@@ -10,10 +10,10 @@ use Rattle.swc_base_covers.specs.Covered.{Asks, IsCovered, causes}
 use Rattle.swc_base_covers.specs.Shown.{ShownAt, ShownFirst}
 use Rattle.swc_base_covers.specs.declared.gap.Cause.{Cause}
 use Rattle.swc_base_covers.specs.declared.gap.Gap.{Gap}
-use Rattle.swc_base_early_errors.specs.Errors.{IsFirst}
+use Rattle.swc_base_covers.specs.Lower.swc_base_early_errors.specs.Errors.{IsFirst}
 use Rattle.swc_base_rename_substitution.specs.declared.config.Config.{Config}
 use Rattle.text_parser.specs.declared.programs.Goal.{Goal}
-use Rattle.text_source.specs.Texts.{Tells}
+use Rattle.mucwathi_order.specs.Lower.text_source.specs.Texts.{Tells}
 use Rattle.mucwathi_settings.specs.declared.command.Settings.{Settings}
 use Rattle.mucwathi_commands.specs.Written.{IsReadAs}
 use Rattle.mucwathi_commands.specs.declared.cover.CoverGap.{CoverGap}

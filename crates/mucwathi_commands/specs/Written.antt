@@ -10,10 +10,10 @@ use Rattle.text_edit.specs.Edits.{IsEdited, IsRenamed}
 use Rattle.text_follow.specs.Follows.{Follows}
 use Rattle.text_lexer.specs.declared.blank.Comments.{Comments}
 use Rattle.text_pieces.specs.Pieces.{pieces}
-use Rattle.text_checks.specs.Checked.{IsWellFormed}
-use Rattle.text_pinned.specs.Pinned.{IsPinned}
+use Rattle.mucwathi_order.specs.Lower.text_checks.specs.Checked.{IsWellFormed}
+use Rattle.mucwathi_order.specs.Lower.text_pinned.specs.Pinned.{IsPinned}
 use Rattle.text_parser.specs.declared.programs.Goal.{Goal}
-use Rattle.text_source.specs.Texts.{IsTextOf, comments_of, slot_of}
+use Rattle.mucwathi_order.specs.Lower.text_source.specs.Texts.{IsTextOf, comments_of, slot_of}
 use Rattle.mucwathi_order.specs.declared.order.Order.{Order}
 use Rattle.mucwathi_order.specs.declared.order.Style.{Style}
 use Rattle.mucwathi_order.specs.declared.order.Style.TheVariants as style

@@ -8,12 +8,12 @@ ghost use Rattle.mucwathi_commands.specs.Looks.{HasPlace, IsCoverTold, IsPlaceOf
 
 use crate::places::place_at;
 use mucwathi_faults::RunFault;
+use mucwathi_order::text_source::read_text;
 use mucwathi_order::{Goal, Settings};
 use mucwathi_passes::config_of;
 use std::alloc::Global;
 use swc_base_covers::{Cause, Gap, covers};
 use swc_tree_node::Node;
-use text_source::read_text;
 
 /// What keeps a text from what is promised, and where.
 #[derive(Clone, Copy, Debug, PartialEq, Eq)]

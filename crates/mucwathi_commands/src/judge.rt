@@ -9,12 +9,12 @@ ghost use Rattle.mucwathi_commands.specs.Judged.{IsAfterFault, IsBeforeFault, Is
 use crate::places::bytes_before;
 use mucwathi_faults::JudgeFault;
 use mucwathi_order::Goal;
+use mucwathi_order::text_source::{TextFault, read_text};
 use std::alloc::Global;
 use swc_base_alpha::{Cause, Unplaced, Why, why_different};
 use swc_base_plain_form::plain_form;
 use swc_tree_marks::{NoMemory, PassError};
 use swc_tree_node::Node;
-use text_source::{TextFault, read_text};
 
 /// A text, and as what it is read.
 #[derive(Clone, Copy)]

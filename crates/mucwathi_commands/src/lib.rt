@@ -18,3 +18,6 @@ pub use rewrite::{rewrite_text, rewrite_with_comments};
 pub use swc_base_alpha::Why;
 pub use swc_base_covers::Cause;
 pub use write::{RewrittenText, edit, print};
+
+// Libraries below that crates above name through this one.
+pub use mucwathi_order;

@@ -4,7 +4,7 @@ ghost use Rattle.text_comments.specs.Comments.{HasComments};
 ghost use Rattle.text_pieces.specs.Pieces.{pieces};
 ghost use Rattle.text_pieces.specs.Tokens.{piece_view};
 ghost use Rattle.text_printer.specs.declared.lay_out.Layout.TheVariants as layouts;
-ghost use Rattle.text_source.specs.Texts.{comments_of};
+ghost use Rattle.mucwathi_order.specs.Lower.text_source.specs.Texts.{comments_of};
 ghost use Rattle.mucwathi_order.specs.Styles.{layout_of};
 ghost use Rattle.mucwathi_commands.specs.Comments.{IsRewrittenWith};
 ghost use Rattle.mucwathi_commands.specs.Faults.{IsRunFault};
@@ -13,6 +13,7 @@ ghost use Rattle.mucwathi_commands.specs.Written.{IsReadAs, IsRewritten};
 use crate::apart::{pieces_again, texts_of};
 use crate::write::{RewrittenText, comments_in, edit_by, print_compact, print_with};
 use mucwathi_faults::RunFault;
+use mucwathi_order::text_source::read_text;
 use mucwathi_order::{Memory, Order};
 use mucwathi_passes::make;
 use std::alloc::Global;
@@ -22,7 +23,6 @@ use swc_tree_node::Node;
 use text_comments::Comment;
 use text_pieces::Piece;
 use text_printer::Layout;
-use text_source::read_text;
 use text_walk::pieces as pieces_in;
 
 // A tree is needed no more.

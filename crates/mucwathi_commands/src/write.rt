@@ -5,7 +5,7 @@ ghost use Rattle.text_comments.specs.Comments.{HasComments};
 ghost use Rattle.text_follow.specs.Follows.{Follows};
 ghost use Rattle.text_pieces.specs.Pieces.{pieces as pieces_of};
 ghost use Rattle.text_pieces.specs.Tokens.{piece_view};
-ghost use Rattle.text_source.specs.Texts as texts;
+ghost use Rattle.mucwathi_order.specs.Lower.text_source.specs.Texts as texts;
 ghost use Rattle.mucwathi_commands.specs.Comments as spec;
 ghost use Rattle.mucwathi_commands.specs.Comments.{AreWrittenAgain};
 ghost use Rattle.mucwathi_commands.specs.Faults.{IsWriteFault};

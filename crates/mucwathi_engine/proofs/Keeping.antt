@@ -7,10 +7,10 @@ use Rattle.swc_tree_node.specs.declared.slot.Slot.TheVariants as slot
 use Rattle.swc_tree_renaming.specs.Apart.{IsPlainIfScript}
 use Rattle.swc_base_covers.specs.Covered as covers
 use Rattle.swc_base_rename_substitution.specs.declared.config.Config.{Config}
-use Rattle.swc_ecma_transforms_base_laws.specs.Sources.{IsSource}
+use Rattle.mucwathi_laws.specs.Lower.swc_ecma_transforms_base_laws.specs.Sources.{IsSource}
 use Rattle.text_parser.specs.declared.programs.Goal.{Goal}
 use Rattle.text_source.specs.Texts.{class_of, slot_of}
-use Rattle.text_kept_chain_laws.specs.Laws.{HasTexts}
+use Rattle.mucwathi_laws.specs.Lower.text_kept_chain_laws.specs.Laws.{HasTexts}
 use Rattle.mucwathi_settings.specs.declared.command.Settings.{Settings}
 use Rattle.mucwathi_order.specs.declared.order.Order.{Order}
 use Rattle.mucwathi_passes.specs.Passes.{Makes, config_of}

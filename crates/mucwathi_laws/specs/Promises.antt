@@ -9,8 +9,8 @@ use Rattle.swc_tree_node.specs.Fits.{Fits}
 use Rattle.swc_tree_renaming.specs.Apart.{IsPlainIfScript, is_goal}
 use Rattle.swc_base_alpha_laws.specs.Alpha.{AlphaEquivalent}
 use Rattle.swc_base_fixer.specs.Promises.{Promises}
-use Rattle.swc_ecma_transforms_base_laws.specs.Headline.{KeepsItsForm, KeepsItsSource}
-use Rattle.swc_ecma_transforms_base_laws.specs.Sources.{IsSource}
+use Rattle.swc_base_mangle_laws.specs.Lower.swc_ecma_transforms_base_laws.specs.Headline.{KeepsItsForm, KeepsItsSource}
+use Rattle.swc_base_mangle_laws.specs.Lower.swc_ecma_transforms_base_laws.specs.Sources.{IsSource}
 use Rattle.swc_tree_grammar.specs.Normal.{normal_form}
 use Rattle.swc_tree_grammar.specs.Same.{declared_names}
 use Rattle.text_pieces.specs.Pieces.{pieces}

@@ -5,11 +5,11 @@ ghost use Rattle.mucwathi_laws.specs.Promises.{PromisesAreKept, TargetsAreSpared
 
 use swc_base_fixer::answers_keep_promises;
 use swc_base_fixer_laws::{normal_form_stays, targets_stand_bare};
-use swc_base_mangle_laws::{mangled_sources_are_kept, mangled_sources_keep_forms};
-use swc_base_rename_hygiene_laws::hygiene_stays_fitting;
-use swc_ecma_transforms_base_laws::{
+use swc_base_mangle_laws::swc_ecma_transforms_base_laws::{
     chaining_keeps_forms, chaining_keeps_sources, resolved_sources_have_their_form,
 };
+use swc_base_mangle_laws::{mangled_sources_are_kept, mangled_sources_keep_forms};
+use swc_base_rename_hygiene_laws::hygiene_stays_fitting;
 use text_kept_chain_laws::{
     fixer_keeps_texts, hygiene_keeps_texts, short_names_keep_texts, unparen_keeps_texts,
 };

@@ -4,3 +4,4 @@ pub mod Marked
 pub mod Names
 pub mod Signs
 pub mod Trees
+pub mod Lower

@@ -13,3 +13,6 @@ pub use marked::mark_text;
 pub use names::free_names;
 pub use signs::{any_is_marked, signs_at};
 pub use trees::tree_of_text;
+
+// Libraries below that crates above name through this one.
+pub use mucwathi_commands;

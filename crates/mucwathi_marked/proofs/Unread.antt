@@ -9,7 +9,7 @@ use Rattle.mucwathi_faults.specs.declared.fault.RunFault.TheVariants.{NotKept, N
 use Rattle.text_parser.specs.declared.programs.Goal.{Goal}
 use Rattle.jsbase_reader.specs.declared.envelope.Envelope.{Envelope}
 use Rattle.mucwathi_order.specs.declared.order.Order.{Order}
-use Rattle.mucwathi_commands.specs.Faults.{IsWriteFault}
+use Rattle.mucwathi_looks.specs.Lower.mucwathi_commands.specs.Faults.{IsWriteFault}
 use Rattle.mucwathi_given.specs.Given.{IsMade}
 use Rattle.mucwathi_given.specs.Refusals.{IsUnmade}
 use Rattle.mucwathi_signs.specs.declared.find.Found.{Found}

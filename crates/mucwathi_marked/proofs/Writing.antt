@@ -15,7 +15,7 @@ use Rattle.mucwathi_order.specs.declared.order.Order.{Order}
 use Rattle.mucwathi_order.specs.declared.order.Style.{Style}
 use Rattle.mucwathi_order.specs.declared.order.Style.TheVariants as style
 use Rattle.mucwathi_order.specs.Styles.{layout_of}
-use Rattle.mucwathi_commands.specs.Written.{IsKept, IsWritten}
+use Rattle.mucwathi_looks.specs.Lower.mucwathi_commands.specs.Written.{IsKept, IsWritten}
 use Rattle.mucwathi_signs.specs.declared.sign.Sign.{Sign}
 use Rattle.mucwathi_signs.specs.Signed.{IsSigned}
 use Rattle.mucwathi_given.specs.Given.{IsMade}

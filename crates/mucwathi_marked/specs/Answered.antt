@@ -13,7 +13,7 @@ use Rattle.text_pieces.specs.Pieces.{pieces}
 use Rattle.text_source.specs.Texts.{SpansAreOf, comments_of}
 use Rattle.mucwathi_settings.specs.declared.command.Settings.{Settings}
 use Rattle.mucwathi_order.specs.declared.order.Order.{Order}
-use Rattle.mucwathi_commands.specs.Written.{IsKept, IsReadAs, IsWritten}
+use Rattle.mucwathi_looks.specs.Lower.mucwathi_commands.specs.Written.{IsKept, IsReadAs, IsWritten}
 use Rattle.mucwathi_given.specs.Given.{IsMade}
 use Rattle.mucwathi_signs.specs.declared.sign.Sign.{Sign}
 use Rattle.mucwathi_signs.specs.Signed.{IsSigned}

@@ -12,7 +12,7 @@ use Rattle.jsbase_reader.specs.declared.envelope.Envelope.{Envelope}
 use Rattle.text_parser.specs.declared.programs.Goal.{Goal}
 use Rattle.text_source.specs.Texts.{SpansAreOf}
 use Rattle.mucwathi_passes.specs.Passes.{own_table}
-use Rattle.mucwathi_commands.specs.Written.{IsReadAs}
+use Rattle.mucwathi_looks.specs.Lower.mucwathi_commands.specs.Written.{IsReadAs}
 use Rattle.mucwathi_signs.specs.declared.sign.Sign.{Sign}
 use Rattle.mucwathi_signs.specs.Signed.{IsMarked}
 use Rattle.mucwathi_marked.specs.declared.given.Marked.{Marked}

@@ -1,3 +1,4 @@
 pub mod Answered
 pub mod Given
 pub mod Refused
+pub mod Lower

@@ -4,7 +4,7 @@ ghost use Rattle.std.specs.List.{All};
 ghost use Rattle.mucwathi_signs.specs.Cut.{AreWritten};
 ghost use Rattle.mucwathi_signs.specs.Signed.{IsMarked};
 ghost use Rattle.mucwathi_passes.specs.Passes.{own_table};
-ghost use Rattle.mucwathi_commands.specs.Written.{IsReadAs};
+ghost use Rattle.mucwathi_looks.specs.Lower.mucwathi_commands.specs.Written.{IsReadAs};
 ghost use Rattle.mucwathi_marked.specs.Refused.{IsUngiven, IsUnread};
 ghost use Rattle.mucwathi_marked.specs.Given.{HasMarks, IsGiven, IsOwn, IsUnmarked, Rise, ends, marks_of, signed};
 

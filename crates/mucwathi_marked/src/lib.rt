@@ -11,3 +11,6 @@ mod write;
 pub use given::{Marked, give_marked, give_text};
 pub use resolved::resolve_marked;
 pub use write::{print_given, rewrite_marked};
+
+// Libraries below that crates above name through this one.
+pub use mucwathi_looks;

@@ -2,14 +2,14 @@
 ghost use Rattle.std.specs.Prelude.{◌≡◌, Some, IsTrue, MatchResult, map};
 ghost use Rattle.swc_tree_walk.specs.Sites.{site_of};
 ghost use Rattle.mucwathi_given.specs.Given.{IsMade, IsReady};
-ghost use Rattle.mucwathi_commands.specs.Faults.{IsWriteFault};
+ghost use Rattle.mucwathi_looks.specs.Lower.mucwathi_commands.specs.Faults.{IsWriteFault};
 ghost use Rattle.mucwathi_marked.specs.Refused.{IsWantOfMemory, IsUnmadeBy, IsUnmadeOf, IsUnrewrittenMarked};
 ghost use Rattle.mucwathi_marked.specs.Answered.{AreWrittenBehind, IsEditedFor, IsMarkedFor, IsPrinted, IsRemade, IsRewrittenMarked, IsWrittenFor, name_of, with_settings as settings_in};
 
 use crate::given::give_marked;
-use mucwathi_commands::{edit, print};
 use mucwathi_faults::RunFault;
 use mucwathi_given::{Envelope, make_given};
+use mucwathi_looks::mucwathi_commands::{edit, print};
 use mucwathi_looks::{any_is_marked, signs_at};
 use mucwathi_order::{Goal, Order, Settings};
 use mucwathi_signs::put_signs;

@@ -9,7 +9,7 @@ use Rattle.swc_tree_grammar.specs.Stripped.{stripped}
 use Rattle.swc_tree_grammar.specs.Targets.{all_bare}
 use Rattle.swc_base_fixer_program.specs.Answers.{answer_to}
 use Rattle.swc_base_mangle.specs.Mangled.{IsMangled, IsMangleRefusal}
-use Rattle.swc_base_rename_program.specs.Renamed.{IsHygienic, IsRenameRefusal, hygiene_renaming}
+use Rattle.swc_base_mangle.specs.Lower.swc_base_rename_program.specs.Renamed.{IsHygienic, IsRenameRefusal, hygiene_renaming}
 use Rattle.swc_base_resolver_program.specs.Marked.{MarksOk}
 use Rattle.mucwathi_settings.specs.declared.command.Settings.{Settings}
 use Rattle.mucwathi_passes.specs.Passes.{IsApart, IsApartRefusal, IsBared, IsPaired, IsPairRefusal, IsRefusedInTurn, IsRenamedAndPaired, IsResolved, IsShort, IsShortRefusal, config_of, own_table}

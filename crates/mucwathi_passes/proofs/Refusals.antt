@@ -9,7 +9,7 @@ use Rattle.swc_tree_scoping.specs.Scopes.{scope_count}
 use Rattle.swc_tree_spaces.specs.Spaces.{has_types}
 use Rattle.swc_tree_grammar.specs.Targets.{all_bare}
 use Rattle.swc_base_mangle.specs.Mangled.{IsMangleRefusal}
-use Rattle.swc_base_rename_program.specs.Renamed.{IsRenameRefusal, hygiene_renaming}
+use Rattle.swc_base_mangle.specs.Lower.swc_base_rename_program.specs.Renamed.{IsRenameRefusal, hygiene_renaming}
 use Rattle.swc_base_resolver_program.specs.Marked.{IsRefusal as IsResolveRefusal}
 use Rattle.mucwathi_settings.specs.declared.command.Command.{Command}
 use Rattle.mucwathi_settings.specs.declared.command.Command.TheVariants as command

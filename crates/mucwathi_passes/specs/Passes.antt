@@ -14,7 +14,7 @@ use Rattle.swc_tree_grammar.specs.Targets.{all_bare}
 use Rattle.swc_base_fixer_program.specs.Answers.{answer_to}
 use Rattle.swc_base_mangle.specs.Mangled.{IsMangled, IsMangleRefusal}
 use Rattle.swc_base_rename_substitution.specs.declared.config.Config.{Config}
-use Rattle.swc_base_rename_program.specs.Renamed.{IsHygienic, IsRenameRefusal, hygiene_renaming}
+use Rattle.swc_base_mangle.specs.Lower.swc_base_rename_program.specs.Renamed.{IsHygienic, IsRenameRefusal, hygiene_renaming}
 use Rattle.mucwathi_settings.specs.declared.command.Command.{Command}
 use Rattle.mucwathi_settings.specs.declared.command.Command.TheVariants as command
 use Rattle.mucwathi_settings.specs.declared.command.Settings.{Settings}

@@ -11,7 +11,7 @@ use std::alloc::Global;
 use swc_base_fixer_program::fix_parens;
 use swc_base_fixer_unparen::remove_parens;
 use swc_base_mangle::mangle_program;
-use swc_base_rename_program::hygiene_program;
+use swc_base_mangle::swc_base_rename_program::hygiene_program;
 use swc_base_rename_substitution::Config;
 use swc_base_resolver_program::resolve_program;
 use swc_tree_comments::NoComments;

@@ -5,7 +5,7 @@ use Rattle.mucwathi_settings.specs.declared.command.Command.TheVariants as comma
 use Rattle.mucwathi_order.specs.declared.order.Memory.TheVariants as memory
 use Rattle.mucwathi_order.specs.declared.order.Order.{Order}
 use Rattle.mucwathi_order.specs.declared.order.Style.TheVariants as style
-use Rattle.mucwathi_commands.specs.Faults.{IsRunFault}
+use Rattle.mucwathi_looks.specs.Lower.mucwathi_commands.specs.Faults.{IsRunFault}
 use Rattle.mucwathi_faults.specs.declared.fault.RunFault.{RunFault}
 use Rattle.mucwathi_looks.specs.Looks.{IsUnlooked}
 

@@ -30,20 +30,20 @@ use Rattle.swc_tree_sites_laws.proofs.LeftIds.{captures, clean_ids, one_scope, p
 use Rattle.swc_base_rename_substitution.specs.declared.config.Config.{Config}
 use Rattle.swc_base_rename_substitution.specs.Identifiers.{id_of}
 use Rattle.swc_base_rename_analysis.specs.Named.{Renaming}
-use Rattle.swc_base_rename_program.specs.Renamed.{hygiene_renaming}
+use Rattle.swc_base_rename_ids_laws.specs.Lower.swc_base_rename_program.specs.Renamed.{hygiene_renaming}
 use Rattle.swc_base_rename_laws.specs.NewNames.{outline}
 use Rattle.swc_base_rename_laws.proofs.Outline.{identifiers_alike, rounds_alike, scopes_alike}
 use Rattle.swc_base_rename_scoped_laws.specs.Laws.{ChainedIsFlat, KeepsApart, NamesAreApart}
 use Rattle.swc_base_rename_scoped_laws.proofs.Apart.{none_preserved}
 use Rattle.swc_base_rename_scoped_laws.proofs.TextsByName.{text_by, text_of_id}
-use Rattle.swc_base_rename_texts_laws.specs.Laws.{HasRenamedTexts, RenamingGivesNormalFormNewTexts, text_anew}
-use Rattle.swc_base_rename_texts_laws.proofs.Cleared.{outline_texts}
-use Rattle.swc_base_rename_texts_laws.proofs.Words.{same_word, spared}
-use Rattle.swc_base_rename_hygiene_laws.specs.Laws.{IsFinishable}
-use Rattle.swc_base_rename_hygiene_laws.specs.Renamers.{IsRenamedAndCleared, SparesGlobalValues, SparesIfScript}
+use Rattle.swc_base_rename_ids_laws.specs.Lower.swc_base_rename_texts_laws.specs.Laws.{HasRenamedTexts, RenamingGivesNormalFormNewTexts, text_anew}
+use Rattle.swc_base_rename_ids_laws.specs.Lower.swc_base_rename_texts_laws.proofs.Cleared.{outline_texts}
+use Rattle.swc_base_rename_ids_laws.specs.Lower.swc_base_rename_texts_laws.proofs.Words.{same_word, spared}
+use Rattle.swc_base_rename_ids_laws.specs.Lower.swc_base_rename_hygiene_laws.specs.Laws.{IsFinishable}
+use Rattle.swc_base_rename_ids_laws.specs.Lower.swc_base_rename_hygiene_laws.specs.Renamers.{IsRenamedAndCleared, SparesGlobalValues, SparesIfScript}
 use Rattle.swc_base_rename_ids_laws.specs.Laws.{IsWrittenAs, RenamersKeepMeanings}
 use Rattle.swc_base_rename_ids_laws.proofs.Globals.{TakesNone, takes_none_too}
-use Rattle.swc_base_rename_texts_laws.proofs.Kept.{all_named, top_apart}
+use Rattle.swc_base_rename_ids_laws.specs.Lower.swc_base_rename_texts_laws.proofs.Kept.{all_named, top_apart}
 use Rattle.swc_base_rename_ids_laws.proofs.Programs.{script_of_goal}
 use Rattle.swc_base_rename_ids_laws.proofs.Spans.{one_id, one_outline}
 use Rattle.swc_base_alpha_laws.specs.Alpha.{AlphaEquivalent, OtherTextsStay}

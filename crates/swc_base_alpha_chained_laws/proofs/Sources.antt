@@ -26,10 +26,10 @@ use Rattle.swc_tree_sites.specs.Sites.{taken_at}
 use Rattle.swc_tree_sites.specs.Smaller.{IsLeftOf}
 use Rattle.swc_tree_sites_laws.specs.Laws.{StrippedTakesTheSame}
 use Rattle.swc_tree_sites_written.specs.Laws.{WrittenOutIsLeft}
-use Rattle.swc_tree_sites_tame.specs.Laws.{WritableModulesAreTame, WritableNormalFormIsLeft}
-use Rattle.swc_tree_sites_scripts.specs.Laws.{PlainScriptsAreLeft}
+use Rattle.swc_base_rename_ids_laws.specs.Lower.swc_tree_sites_tame.specs.Laws.{WritableModulesAreTame, WritableNormalFormIsLeft}
+use Rattle.swc_base_rename_ids_laws.specs.Lower.swc_tree_sites_scripts.specs.Laws.{PlainScriptsAreLeft}
 use Rattle.swc_base_fixer_laws.specs.Laws.{TargetsStandBare}
-use Rattle.swc_base_rename_texts_laws.proofs.Cleared.{bare_there as text_there}
+use Rattle.swc_base_rename_ids_laws.specs.Lower.swc_base_rename_texts_laws.proofs.Cleared.{bare_there as text_there}
 use Rattle.swc_base_rename_ids_laws.specs.Laws.{IsSettledIfScript}
 use Rattle.swc_base_rename_ids_laws.proofs.Exported.{normal_cleared, texts_again}
 use Rattle.swc_base_rename_ids_laws.proofs.Globals.{settled_alike, takes_none_too}

@@ -10,11 +10,11 @@ use Rattle.swc_tree_renaming.specs.Apart.{IsPlainIfScript, MeanTheirIds, is_goal
 use Rattle.swc_tree_grammar.specs.Normal.{normal_form}
 use Rattle.swc_tree_grammar.specs.Writable.{Writable}
 use Rattle.swc_base_rename_substitution.specs.declared.config.Config.{Config}
-use Rattle.swc_base_rename_program.specs.Renamed.{IsHygienic}
+use Rattle.swc_base_rename_ids_laws.specs.Lower.swc_base_rename_program.specs.Renamed.{IsHygienic}
 use Rattle.swc_base_rename_analysis.specs.Named.{Renaming}
 use Rattle.swc_base_rename_scoped_laws.specs.Laws.{KeepsApart}
-use Rattle.swc_base_rename_hygiene_laws.specs.Laws.{IsFinishable}
-use Rattle.swc_base_rename_hygiene_laws.specs.Renamers.{IsRenamedAndCleared, SparesIfScript}
+use Rattle.swc_base_rename_ids_laws.specs.Lower.swc_base_rename_hygiene_laws.specs.Laws.{IsFinishable}
+use Rattle.swc_base_rename_ids_laws.specs.Lower.swc_base_rename_hygiene_laws.specs.Renamers.{IsRenamedAndCleared, SparesIfScript}
 use Rattle.swc_base_rename_ids_laws.specs.Laws.{IsWrittenAs}
 use Rattle.swc_base_alpha_laws.specs.Alpha.{AlphaEquivalent}
 

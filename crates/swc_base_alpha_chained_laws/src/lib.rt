@@ -7,14 +7,16 @@
 ghost use Rattle.swc_base_alpha_chained_laws.specs.Laws.{HygieneKeepsSources, NormalFormsCatchNone, NormalNamesMeanTheirIds, RenamersKeepSources};
 
 use swc_base_fixer_laws::targets_stand_bare;
-use swc_base_rename_hygiene_laws::hygiene_spares_global_values;
 use swc_base_rename_ids_laws::renamers_keep_meanings;
+use swc_base_rename_ids_laws::swc_base_rename_hygiene_laws::hygiene_spares_global_values;
+use swc_base_rename_ids_laws::swc_base_rename_texts_laws::renaming_gives_normal_form_new_texts;
+use swc_base_rename_ids_laws::swc_tree_sites_scripts::plain_scripts_are_left;
+use swc_base_rename_ids_laws::swc_tree_sites_tame::{
+    writable_modules_are_tame, writable_normal_form_is_left,
+};
 use swc_base_rename_scoped_laws::{chained_is_flat, names_are_apart};
-use swc_base_rename_texts_laws::renaming_gives_normal_form_new_texts;
 use swc_tree_grammar_texts::texts_are_as_writable;
 use swc_tree_sites_laws::{ids_are_left, stripped_takes_the_same};
-use swc_tree_sites_scripts::plain_scripts_are_left;
-use swc_tree_sites_tame::{writable_modules_are_tame, writable_normal_form_is_left};
 use swc_tree_sites_written::written_out_is_left;
 
 /// In the normal form of a source that can be written down no `var` declares a catch parameter's name again.
@@ -69,3 +71,6 @@ pub fn hygiene_keeps_sources()
     renamers_keep_sources();
     hygiene_spares_global_values();
 }
+
+// Libraries below that crates above name through this one.
+pub use swc_base_rename_ids_laws;

@@ -13,3 +13,6 @@ mod walk;
 
 pub use errors::{NameError, error_of_names};
 pub use scripts::{ScriptFault, unplain_part};
+
+// Libraries below that crates above name through this one.
+pub use swc_base_scope_checks;

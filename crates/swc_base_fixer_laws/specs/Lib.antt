@@ -4,3 +4,4 @@ pub mod Laws
 pub mod Once
 pub mod Named
 pub mod Targets
+pub mod Lower

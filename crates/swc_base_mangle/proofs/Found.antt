@@ -9,7 +9,7 @@ use Rattle.swc_tree_renaming.specs.Apart.{DeclaresNoGlobalValue, HasNoSloppy}
 use Rattle.swc_tree_renaming.proofs.Whole.{script_layer}
 use Rattle.swc_base_resolver_program.specs.declared.names.ScopeNames.{ScopeNames}
 use Rattle.swc_base_resolver_program.proofs.Ways.{or_cases, or_left, or_right}
-use Rattle.swc_base_scope_checks.specs.Asked.{Passes, Test}
+use Rattle.swc_base_early_errors.specs.Lower.swc_base_scope_checks.specs.Asked.{Passes, Test}
 use Rattle.swc_base_early_errors.specs.declared.sought.Sought.TheVariants as sought
 use Rattle.swc_base_early_errors.proofs.Found.{IsThere, Sees, no_global_is, no_sloppy_is, there_is}
 use Rattle.swc_base_mangle.specs.Mangled.{HasStrays}

@@ -1,3 +1,4 @@
 pub mod Own
 pub mod Strays
 pub mod Mangled
+pub mod Lower

@@ -12,3 +12,6 @@ mod strays;
 pub use mangle::mangle_program;
 pub use own::own_ids;
 pub use strays::has_strays;
+
+// Libraries below that crates above name through this one.
+pub use swc_base_rename_program;

@@ -3,14 +3,14 @@ ghost use Rattle.std.specs.Prelude.{◌≡◌, ◌↔◌, IsTrue, IfOk, [], fals
 ghost use Rattle.swc_tree_scoping.specs.Places.{program_place};
 ghost use Rattle.swc_tree_scoping.specs.Resolved.{is_global_value as names_global_value, is_script as is_script_node};
 ghost use Rattle.swc_tree_scoping.specs.Scopes.{scope_count};
-ghost use Rattle.swc_base_scope_checks.specs.Asked.{Passes};
+ghost use Rattle.swc_base_early_errors.specs.Lower.swc_base_scope_checks.specs.Asked.{Passes};
 ghost use Rattle.swc_base_early_errors.specs.Asked.{is_program};
 ghost use Rattle.swc_base_mangle.specs.Mangled.{HasStrays};
 ghost use Rattle.swc_base_mangle.specs.Strays.{is_stray};
 
 use std::alloc::{AllocError, Global};
+use swc_base_early_errors::swc_base_scope_checks::{Question, has_identifier};
 use swc_base_resolver_program::{Env, ScopeNames, Stage, gather_program, taker};
-use swc_base_scope_checks::{Question, has_identifier};
 use swc_tree_marks::Ident;
 use swc_tree_node::{Kind, Node};
 use swc_tree_scoping::{Place, Standing, is_binding};

@@ -16,7 +16,7 @@ use Rattle.swc_tree_grammar.specs.Fixed.{fixed}
 use Rattle.swc_tree_grammar.specs.Writable.{is_identifier_text}
 use Rattle.swc_tree_grammar.specs.Targets.{all_bare}
 use Rattle.swc_base_rename_analysis.specs.Named.{Renaming}
-use Rattle.swc_base_rename_hygiene_laws.specs.Renamers.{IsLawful, IsRenamedAndCleared, KeepsTopApart, SparesGlobalValues}
+use Rattle.swc_ecma_transforms_base_laws.specs.Lower.swc_base_rename_hygiene_laws.specs.Renamers.{IsLawful, IsRenamedAndCleared, KeepsTopApart, SparesGlobalValues}
 use Rattle.swc_base_rename_by_use.specs.ByUse.{moved, own}
 use Rattle.swc_base_rename_by_use.specs.ByUseLaws.{below as fits-by_use}
 use Rattle.swc_base_rename_by_use.specs.declared.by_use.TextsByUse.{TextsByUse}

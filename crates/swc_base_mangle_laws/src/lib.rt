@@ -27,3 +27,6 @@ pub fn mangled_sources_are_kept()
     lawful_renamers_keep_sources();
     renamers_that_preserve_top_names_suit();
 }
+
+// Libraries below that crates above name through this one.
+pub use swc_ecma_transforms_base_laws;

@@ -9,7 +9,7 @@ use Rattle.swc_tree_spaces.specs.Spaces.{has_types}
 use Rattle.swc_base_rename_analysis.specs.Named.{Renaming}
 use Rattle.swc_base_rename_program.specs.Renamed.{IsRenameRefusal, IsRenamedBy}
 use Rattle.swc_base_rename_naming.specs.Counters.{greatest}
-use Rattle.swc_base_rename_tries_laws.specs.Laws.{TellsApart}
+use Rattle.swc_base_rename_units_laws.specs.Lower.swc_base_rename_tries_laws.specs.Laws.{TellsApart}
 use Rattle.swc_base_rename_units_laws.specs.Bounds.{IsFlat, IsOfCrowding, TakesFew}
 use Rattle.swc_base_rename_substitution.specs.declared.config.Config.{Config}
 use Rattle.swc_base_rename_hygiene_laws.specs.Renamers.{IsRenamedAndCleared}

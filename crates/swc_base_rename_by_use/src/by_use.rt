@@ -6,8 +6,8 @@ ghost use Rattle.swc_base_rename_by_use.specs.ByUseLaws.{differ-by_use};
 
 use std::alloc::Global;
 use std::collections::BTreeMap;
-use swc_base_rename_naming::NewTexts;
 use swc_base_rename_short_texts::short_text;
+use swc_base_rename_short_texts::swc_base_rename_naming::NewTexts;
 use swc_tree_marks::{Id, JsWord, PassError};
 
 /// Gives each id first the short text of the counter that is put down for it, and then the other short texts in order.

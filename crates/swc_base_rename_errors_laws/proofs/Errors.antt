@@ -41,7 +41,7 @@ use Rattle.swc_tree_sites_laws.proofs.LeftStripped.{stripped_takes}
 use Rattle.swc_tree_sites_errors.specs.Laws.{Answers, KeepsScopes}
 use Rattle.swc_tree_sites_errors.proofs.Left.{answer_declares, answer_redeclares_none, declared_stays, fair_answer, left_keeps}
 use Rattle.swc_tree_sites_errors.proofs.Named.{keeps_by}
-use Rattle.swc_tree_sites_tame.proofs.Modules.{modules_tame}
+use Rattle.swc_tree_sites_scripts.specs.Lower.swc_tree_sites_tame.proofs.Modules.{modules_tame}
 use Rattle.swc_tree_sites_scripts.specs.Laws.{FixedScriptsLoseNoName, PlainScriptsAreLeft, script_place}
 use Rattle.swc_base_fixer_laws.proofs.AgainNormal.{normal_form_stays}
 use Rattle.swc_base_fixer_laws.proofs.AgainStill.{fits_well}
@@ -50,12 +50,12 @@ use Rattle.swc_base_fixer_laws.proofs.Fixed.{fixed_fits, targets_stand_bare}
 use Rattle.swc_base_fixer_laws.proofs.NoNamespaces.{writable_has_no_namespaces}
 use Rattle.swc_base_rename_substitution.specs.declared.config.Config.{Config}
 use Rattle.swc_base_rename_analysis.specs.Named.{Renaming}
-use Rattle.swc_base_rename_program.specs.Renamed.{hygiene_renaming}
+use Rattle.swc_base_rename_texts_laws.specs.Lower.swc_base_rename_program.specs.Renamed.{hygiene_renaming}
 use Rattle.swc_base_rename_laws.proofs.Outline.{identifiers_alike, rounds_alike, scopes_alike}
 use Rattle.swc_base_rename_scoped_laws.specs.Laws.{ChainedIsFlat, KeepsApart, NamesAreApart, new_text}
 use Rattle.swc_base_rename_scoped_laws.proofs.Apart.{none_preserved}
-use Rattle.swc_base_rename_hygiene_laws.specs.Laws.{HygieneIsLawful, IsFinishable, RenamingStaysFitting, RenamingStaysSettled, RenamingStaysWritable}
-use Rattle.swc_base_rename_hygiene_laws.specs.Renamers.{IsLawful, IsRenamedAndCleared, SparesIfScript}
+use Rattle.swc_base_rename_texts_laws.specs.Lower.swc_base_rename_hygiene_laws.specs.Laws.{HygieneIsLawful, IsFinishable, RenamingStaysFitting, RenamingStaysSettled, RenamingStaysWritable}
+use Rattle.swc_base_rename_texts_laws.specs.Lower.swc_base_rename_hygiene_laws.specs.Renamers.{IsLawful, IsRenamedAndCleared, SparesIfScript}
 use Rattle.swc_base_rename_texts_laws.proofs.Kept.{all_named, top_apart}
 use Rattle.swc_base_rename_scoped_laws.proofs.TextsByName.{text_by, text_of_id}
 use Rattle.swc_base_rename_texts_laws.specs.Laws.{HasRenamedTexts, RenamingGivesNormalFormNewTexts}

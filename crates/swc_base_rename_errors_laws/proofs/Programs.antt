@@ -33,10 +33,10 @@ use Rattle.swc_tree_sites_written.proofs.Modules.{module_whole}
 use Rattle.swc_tree_sites_written.proofs.NormalForms.{normal_left}
 use Rattle.swc_tree_sites_written.proofs.Written.{written_tree}
 use Rattle.swc_tree_sites_errors.specs.Laws.{AreOfOneGoal, KeepsScopes}
-use Rattle.swc_tree_sites_tame.proofs.Modules.{modules_tame}
+use Rattle.swc_tree_sites_scripts.specs.Lower.swc_tree_sites_tame.proofs.Modules.{modules_tame}
 use Rattle.swc_tree_sites_scripts.specs.Laws.{FixedScriptsLoseNoName, PlainScriptsAreLeft, script_place}
 use Rattle.swc_base_fixer_laws.proofs.Fixed.{targets_stand_bare}
-use Rattle.swc_base_fixer_sites.proofs.Answers.{stripping_answers_loses_none}
+use Rattle.swc_tree_sites_scripts.specs.Lower.swc_base_fixer_sites.proofs.Answers.{stripping_answers_loses_none}
 
 abbrev pub module_place : Slot
 module_place = slot.One (content.Node class.Module)

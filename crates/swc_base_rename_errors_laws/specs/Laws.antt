@@ -10,10 +10,10 @@ use Rattle.swc_tree_renaming.specs.Apart.{IsPlainIfScript, is_goal}
 use Rattle.swc_tree_grammar.specs.Due.{Places}
 use Rattle.swc_tree_grammar.specs.Fixed.{fixed}
 use Rattle.swc_base_rename_substitution.specs.declared.config.Config.{Config}
-use Rattle.swc_base_rename_program.specs.Renamed.{IsHygienic}
+use Rattle.swc_base_rename_texts_laws.specs.Lower.swc_base_rename_program.specs.Renamed.{IsHygienic}
 use Rattle.swc_base_rename_analysis.specs.Named.{Renaming}
-use Rattle.swc_base_rename_hygiene_laws.specs.Laws.{IsFinishable}
-use Rattle.swc_base_rename_hygiene_laws.specs.Renamers.{IsLawful, IsRenamedAndCleared}
+use Rattle.swc_base_rename_texts_laws.specs.Lower.swc_base_rename_hygiene_laws.specs.Laws.{IsFinishable}
+use Rattle.swc_base_rename_texts_laws.specs.Lower.swc_base_rename_hygiene_laws.specs.Renamers.{IsLawful, IsRenamedAndCleared}
 use Rattle.swc_base_rename_scoped_laws.specs.Laws.{KeepsApart}
 
 -- an answer, read by texts, declares no name against the rules, and neither `eval` nor `arguments`

@@ -6,11 +6,11 @@
 
 ghost use Rattle.swc_base_rename_errors_laws.specs.Laws.{AnswerDeclaresByTheRules, AnswerHasNoEarlyErrorOfNames, RenamedAnswerDeclaresByTheRules, RenamedAnswerHasNoEarlyErrorOfNames};
 
-use swc_base_rename_hygiene_laws::{
-    hygiene_is_lawful, renaming_stays_fitting, renaming_stays_settled, renaming_stays_writable,
-};
 use swc_base_rename_scoped_laws::{chained_is_flat, names_are_apart};
 use swc_base_rename_texts_laws::renaming_gives_normal_form_new_texts;
+use swc_base_rename_texts_laws::swc_base_rename_hygiene_laws::{
+    hygiene_is_lawful, renaming_stays_fitting, renaming_stays_settled, renaming_stays_writable,
+};
 use swc_tree_sites_scripts::{fixed_scripts_lose_no_name, plain_scripts_are_left};
 
 /// What a lawful renamer, whose preserved ids keep apart, and then the fixer answer to a well-scoped program that can be written down,
@@ -57,3 +57,7 @@ pub fn answer_has_no_early_error_of_names()
     renamed_answer_has_no_early_error_of_names();
     hygiene_is_lawful();
 }
+
+// Libraries below that crates above name through this one.
+pub use swc_base_rename_texts_laws;
+pub use swc_tree_sites_scripts;

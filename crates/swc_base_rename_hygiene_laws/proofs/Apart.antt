@@ -16,7 +16,7 @@ use Rattle.swc_base_rename_analysis.specs.Named.{IsNamedAt, Named, Renaming}
 use Rattle.swc_base_rename_analysis.specs.Order.{IsBefore, Site, entry, site_cmp, turns}
 use Rattle.swc_base_rename_analysis.proofs.InOrder.{by_earlier}
 use Rattle.swc_base_rename_analysis.specs.Preserved.{IsPreserved}
-use Rattle.swc_base_rename_naming_laws.specs.Rules.{counting, counting_by}
+use Rattle.swc_base_rename_program.specs.Lower.swc_base_rename_naming_laws.specs.Rules.{counting, counting_by}
 use Rattle.swc_base_rename_hygiene_laws.specs.Renamers.{IsBoundAtTop, TopTextsDiffer}
 
 -- an id that is bound at a path, round which the module is the only scope

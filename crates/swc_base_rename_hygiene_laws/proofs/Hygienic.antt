@@ -4,8 +4,8 @@ use Rattle.std.specs.Str.{bytes_eq}
 use Rattle.std.proofs.lemmas.Slice.Eq.{bytes_eq-Decides}
 use Rattle.swc_tree_node.specs.declared.node.Node.{Node}
 use Rattle.swc_tree_scoping.specs.Resolved.{is_global_value}
-use Rattle.swc_base_rename_naming.specs.Texts.{numbered}
-use Rattle.swc_base_rename_naming.specs.TextLaws.{ends_in_digit, identifier-numbered, word-numbered}
+use Rattle.swc_base_rename_program.specs.Lower.swc_base_rename_naming.specs.Texts.{numbered}
+use Rattle.swc_base_rename_program.specs.Lower.swc_base_rename_naming.specs.TextLaws.{ends_in_digit, identifier-numbered, word-numbered}
 use Rattle.swc_base_rename_program.specs.Renamed.{hygiene_renaming}
 use Rattle.swc_base_rename_hygiene_laws.specs.Laws.{HygieneIsLawful, HygieneSparesGlobalValues}
 use Rattle.swc_base_rename_hygiene_laws.specs.Renamers.{KeepsTopApart}

@@ -47,7 +47,7 @@ use Rattle.swc_base_rename_analysis.specs.Named.{Named, Renaming}
 use Rattle.swc_base_rename_analysis.specs.Order.{entry}
 use Rattle.swc_base_rename_analysis.specs.Preserved.{IsPreserved}
 use Rattle.swc_base_rename_analysis.proofs.Level.{each_in_order}
-use Rattle.swc_base_rename_naming_laws.specs.Rules.{counting}
+use Rattle.swc_base_rename_program.specs.Lower.swc_base_rename_naming_laws.specs.Rules.{counting}
 use Rattle.swc_base_rename_program.specs.Renamed.{hygiene_renaming, new_id_by}
 use Rattle.swc_base_rename_laws.specs.Laws.{IsProgram}
 use Rattle.swc_base_rename_laws.proofs.Impossible.{impossible}

@@ -1,2 +1,3 @@
 pub mod Renamers
 pub mod Laws
+pub mod Lower

@@ -52,10 +52,10 @@ use Rattle.swc_base_rename_laws.proofs.NormalFormDeclared.{exported_declares}
 use Rattle.swc_base_rename_laws.proofs.NormalFormModule.{tree_only}
 use Rattle.swc_base_rename_laws.proofs.NormalFormStays.{before, items_become}
 use Rattle.swc_base_rename_laws.proofs.Unchanged.{stays}
-use Rattle.swc_base_rename_hygiene_laws.proofs.ExportsApart.{ApartIfKept, exports_apart}
-use Rattle.swc_base_rename_hygiene_laws.proofs.Found.{AllOf, Found}
-use Rattle.swc_base_rename_hygiene_laws.proofs.KeepsNormal.{both_true, each_from, fit_at, items_sound, normal_inner, sound_at}
-use Rattle.swc_base_rename_hygiene_laws.proofs.TopDeclared.{TopBinding, decl_found, decl_place, no_own_block, top_binding}
+use Rattle.swc_base_rename_texts_laws.specs.Lower.swc_base_rename_hygiene_laws.proofs.ExportsApart.{ApartIfKept, exports_apart}
+use Rattle.swc_base_rename_texts_laws.specs.Lower.swc_base_rename_hygiene_laws.proofs.Found.{AllOf, Found}
+use Rattle.swc_base_rename_texts_laws.specs.Lower.swc_base_rename_hygiene_laws.proofs.KeepsNormal.{both_true, each_from, fit_at, items_sound, normal_inner, sound_at}
+use Rattle.swc_base_rename_texts_laws.specs.Lower.swc_base_rename_hygiene_laws.proofs.TopDeclared.{TopBinding, decl_found, decl_place, no_own_block, top_binding}
 use Rattle.swc_base_rename_texts_laws.proofs.Kept.{only_taker}
 use Rattle.swc_base_rename_ids_laws.proofs.Programs.{by_goal}
 

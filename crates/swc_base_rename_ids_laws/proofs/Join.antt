@@ -30,13 +30,13 @@ use Rattle.swc_tree_sites.specs.Sites.{taken_at}
 use Rattle.swc_tree_sites.specs.Smaller.{IsLeftOf}
 use Rattle.swc_tree_sites.proofs.Transport.{binding_names}
 use Rattle.swc_tree_sites_laws.specs.Laws.{IdsAreLeft, LeftKeepsIds, LeftMeanTheirIds, StrippedTakesTheSame}
-use Rattle.swc_tree_sites_written.specs.Laws.{WrittenOutIsLeft}
-use Rattle.swc_tree_sites_tame.specs.Laws.{WritableModulesAreTame, WritableNormalFormIsLeft}
+use Rattle.swc_tree_sites_scripts.specs.Lower.swc_tree_sites_written.specs.Laws.{WrittenOutIsLeft}
+use Rattle.swc_tree_sites_scripts.specs.Lower.swc_tree_sites_tame.specs.Laws.{WritableModulesAreTame, WritableNormalFormIsLeft}
 use Rattle.swc_tree_sites_scripts.specs.Laws.{PlainScriptsAreLeft}
 use Rattle.swc_base_fixer_laws.specs.Laws.{TargetsStandBare}
 use Rattle.swc_base_rename_substitution.specs.declared.config.Config.{Config}
 use Rattle.swc_base_rename_analysis.specs.Named.{Renaming}
-use Rattle.swc_base_rename_program.specs.Renamed.{hygiene_renaming}
+use Rattle.swc_base_rename_texts_laws.specs.Lower.swc_base_rename_program.specs.Renamed.{hygiene_renaming}
 use Rattle.swc_base_rename_laws.specs.NewNames.{outline}
 use Rattle.swc_base_rename_laws.proofs.Outline.{identifiers_alike, rounds_alike, scopes_alike}
 use Rattle.swc_base_rename_scoped_laws.specs.Laws.{ChainedIsFlat, KeepsApart, NamesAreApart, new_text}
@@ -46,8 +46,8 @@ use Rattle.swc_base_rename_texts_laws.specs.Laws.{HasRenamedTexts, RenamingGives
 use Rattle.swc_base_rename_texts_laws.proofs.Cleared.{bare_there}
 use Rattle.swc_base_rename_texts_laws.proofs.Kept.{all_named, top_apart}
 use Rattle.swc_base_rename_texts_laws.proofs.Words.{same_word, spared}
-use Rattle.swc_base_rename_hygiene_laws.specs.Laws.{HygieneSparesGlobalValues, IsFinishable}
-use Rattle.swc_base_rename_hygiene_laws.specs.Renamers.{IsRenamedAndCleared, SparesGlobalValues, SparesIfScript}
+use Rattle.swc_base_rename_texts_laws.specs.Lower.swc_base_rename_hygiene_laws.specs.Laws.{HygieneSparesGlobalValues, IsFinishable}
+use Rattle.swc_base_rename_texts_laws.specs.Lower.swc_base_rename_hygiene_laws.specs.Renamers.{IsRenamedAndCleared, SparesGlobalValues, SparesIfScript}
 use Rattle.swc_base_rename_ids_laws.specs.Laws.{HygieneKeepsIds, HygieneKeepsMeanings, IsSettledIfScript, IsWrittenAs, RenamersKeepIds, RenamersKeepMeanings}
 use Rattle.swc_base_rename_ids_laws.proofs.Exported.{normal_cleared, texts_again}
 use Rattle.swc_base_rename_ids_laws.proofs.Globals.{TakesNone, settled_alike, takes_none_too}

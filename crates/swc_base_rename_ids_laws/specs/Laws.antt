@@ -12,9 +12,9 @@ use Rattle.swc_tree_grammar.specs.Spanless.{SameButForSpans}
 use Rattle.swc_tree_grammar.specs.Writable.{Writable}
 use Rattle.swc_base_rename_substitution.specs.declared.config.Config.{Config}
 use Rattle.swc_base_rename_analysis.specs.Named.{Renaming}
-use Rattle.swc_base_rename_program.specs.Renamed.{IsHygienic}
-use Rattle.swc_base_rename_hygiene_laws.specs.Laws.{IsFinishable}
-use Rattle.swc_base_rename_hygiene_laws.specs.Renamers.{IsRenamedAndCleared, SparesIfScript}
+use Rattle.swc_base_rename_texts_laws.specs.Lower.swc_base_rename_program.specs.Renamed.{IsHygienic}
+use Rattle.swc_base_rename_texts_laws.specs.Lower.swc_base_rename_hygiene_laws.specs.Laws.{IsFinishable}
+use Rattle.swc_base_rename_texts_laws.specs.Lower.swc_base_rename_hygiene_laws.specs.Renamers.{IsRenamedAndCleared, SparesIfScript}
 use Rattle.swc_base_rename_scoped_laws.specs.Laws.{KeepsApart}
 
 -- a module, or a script where no plain function stands in a block of sloppy code and no label names a function

@@ -8,16 +8,18 @@
 ghost use Rattle.swc_base_rename_ids_laws.specs.Laws.{HygieneKeepsIds, HygieneKeepsMeanings, RenamersKeepIds, RenamersKeepMeanings};
 
 use swc_base_fixer_laws::targets_stand_bare;
-use swc_base_rename_hygiene_laws::hygiene_spares_global_values;
 use swc_base_rename_scoped_laws::{chained_is_flat, names_are_apart};
 use swc_base_rename_texts_laws::renaming_gives_normal_form_new_texts;
+use swc_base_rename_texts_laws::swc_base_rename_hygiene_laws::hygiene_spares_global_values;
 use swc_tree_grammar_texts::texts_are_as_writable;
 use swc_tree_sites_laws::{
     ids_are_left, left_keeps_ids, left_mean_their_ids, stripped_takes_the_same,
 };
 use swc_tree_sites_scripts::plain_scripts_are_left;
-use swc_tree_sites_tame::{writable_modules_are_tame, writable_normal_form_is_left};
-use swc_tree_sites_written::written_out_is_left;
+use swc_tree_sites_scripts::swc_tree_sites_tame::{
+    writable_modules_are_tame, writable_normal_form_is_left,
+};
+use swc_tree_sites_scripts::swc_tree_sites_written::written_out_is_left;
 
 /// Each way to write down what a renamer whose preserved ids are apart made of a well-scoped program gets, from any resolver, one
 /// id for two names of it exactly if the program had one id for them; in scripts, where no name gets the text `undefined`, `NaN`
@@ -69,3 +71,9 @@ pub fn hygiene_keeps_meanings()
 {
     renamers_keep_meanings();
 }
+
+// Libraries below that crates above name through this one.
+pub use swc_base_rename_texts_laws;
+pub use swc_base_rename_texts_laws::swc_base_rename_hygiene_laws;
+pub use swc_tree_sites_scripts;
+pub use swc_tree_sites_scripts::swc_tree_sites_tame;

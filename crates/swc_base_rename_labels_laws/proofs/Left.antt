@@ -23,7 +23,7 @@ use Rattle.swc_tree_sites.specs.Smaller.{AreKept, In, IsCopy, IsLeftOf, Sub}
 use Rattle.swc_tree_sites.proofs.Found.{in_map, map_in}
 use Rattle.swc_tree_sites.proofs.Kept.{S}
 use Rattle.swc_tree_sites_laws.proofs.LeftByIds.{bound_by, site_by, sites_by}
-use Rattle.swc_tree_sites_scripts.specs.Laws.{FixedScriptsLoseNoName, PlainScriptsAreLeft, script_place}
+use Rattle.swc_base_rename_ids_laws.specs.Lower.swc_tree_sites_scripts.specs.Laws.{FixedScriptsLoseNoName, PlainScriptsAreLeft, script_place}
 use Rattle.swc_tree_sites_tame.specs.Laws.{WritableModulesAreTame, WritableNormalFormIsLeft}
 use Rattle.swc_tree_sites_written.specs.Laws.{WrittenOutLosesNone}
 use Rattle.swc_base_fixer_laws.specs.Laws.{FixedFits, FixedFitsTable, NormalFormStays, TargetsStandBare}
@@ -32,7 +32,7 @@ use Rattle.swc_base_rename_substitution.specs.Identifiers.{Changes, id_of}
 use Rattle.swc_base_rename_substitution.specs.Names.{Id}
 use Rattle.swc_base_rename_laws.specs.Laws.{NormalFormHasNewNames, NormalFormKeepsSpans}
 use Rattle.swc_base_rename_laws.specs.NewNames.{HasNewNames, SameButForNames, nameless as unnamed, nameless_step}
-use Rattle.swc_base_rename_hygiene_laws.proofs.KeepsNormal.{is_program}
+use Rattle.swc_base_rename_ids_laws.specs.Lower.swc_base_rename_hygiene_laws.proofs.KeepsNormal.{is_program}
 use Rattle.swc_base_rename_ids_laws.proofs.Programs.{by_goal, module_place}
 use Rattle.swc_base_rename_labels_laws.specs.Labels.{KeepsContexts, by_contexts, named_by}
 use Rattle.swc_base_rename_labels_laws.specs.Laws.{FixedNamesAreLeft, IsWrittenOf}

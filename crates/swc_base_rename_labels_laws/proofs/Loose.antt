@@ -32,7 +32,7 @@ use Rattle.swc_tree_sites.proofs.Round.{taken_is}
 use Rattle.swc_tree_sites.proofs.Transport.{OneTaker, binding_names, found, reference_names, refers_so, region, there, up}
 use Rattle.swc_tree_sites.proofs.Whole.{one_taker, one_taker_of_fewer}
 use Rattle.swc_tree_sites_laws.proofs.LeftIds.{clean_ids, plain_clean}
-use Rattle.swc_tree_sites_scripts.specs.Laws.{FixedScriptsLoseNoName}
+use Rattle.swc_base_rename_ids_laws.specs.Lower.swc_tree_sites_scripts.specs.Laws.{FixedScriptsLoseNoName}
 use Rattle.swc_base_fixer_laws.specs.Laws.{FixedFitsTable, TargetsStandBare}
 use Rattle.swc_base_rename_analysis.specs.Ids.{IsBound}
 use Rattle.swc_base_rename_analysis.specs.Preserved.{IsLoose, is_name_or_label}

@@ -21,11 +21,11 @@ use Rattle.swc_tree_sites.specs.Smaller.{In, IsLeftOf}
 use Rattle.swc_tree_sites.proofs.Found.{env_at, finds}
 use Rattle.swc_tree_sites.proofs.Kept.{S}
 use Rattle.swc_tree_sites_laws.specs.Laws.{LeftMeanTheirIds}
-use Rattle.swc_tree_sites_scripts.specs.Laws.{FixedScriptsLoseNoName}
+use Rattle.swc_base_rename_ids_laws.specs.Lower.swc_tree_sites_scripts.specs.Laws.{FixedScriptsLoseNoName}
 use Rattle.swc_base_fixer_laws.specs.Laws.{FixedFitsTable, TargetsStandBare}
 use Rattle.swc_base_resolver_laws.specs.Laws.{ResolvedNamesMeanTheirIds}
 use Rattle.swc_base_rename_substitution.specs.Names.{Id, if_other_text, same_text}
-use Rattle.swc_base_rename_hygiene_laws.proofs.KeepsNormal.{is_program}
+use Rattle.swc_base_rename_ids_laws.specs.Lower.swc_base_rename_hygiene_laws.proofs.KeepsNormal.{is_program}
 use Rattle.swc_base_rename_program.specs.Renamed.{hygiene_renaming}
 use Rattle.swc_base_rename_scoped_laws.specs.Laws.{NamesAreApart}
 use Rattle.swc_base_rename_scoped_laws.proofs.Apart.{none_preserved}

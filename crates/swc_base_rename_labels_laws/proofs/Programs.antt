@@ -16,7 +16,7 @@ use Rattle.swc_tree_grammar.specs.Normal.{normal_form}
 use Rattle.swc_tree_grammar.specs.Places.{is_open}
 use Rattle.swc_tree_sites.specs.Smaller.{IsLeftOf}
 use Rattle.swc_tree_sites_tame.specs.Laws.{WritableNormalFormIsLeft}
-use Rattle.swc_tree_sites_scripts.specs.Laws.{FixedScriptsLoseNoName, PlainScriptsAreLeft}
+use Rattle.swc_base_rename_ids_laws.specs.Lower.swc_tree_sites_scripts.specs.Laws.{FixedScriptsLoseNoName, PlainScriptsAreLeft}
 use Rattle.swc_base_fixer_laws.specs.Laws.{FixedFitsTable, TargetsStandBare}
 use Rattle.swc_base_rename_ids_laws.specs.Laws.{IsSettledIfScript}
 use Rattle.swc_base_rename_ids_laws.proofs.Globals.{settled_alike}

@@ -8,12 +8,14 @@ ghost use Rattle.swc_base_rename_labels_laws.specs.Laws.{FixedNamesAreLeft, Labe
 
 use swc_base_fixer_laws::{fixed_fits, fixed_fits_table, normal_form_stays, targets_stand_bare};
 use swc_base_fixer_sites::stripping_answers_loses_none;
+use swc_base_rename_ids_laws::swc_tree_sites_scripts::{
+    fixed_scripts_lose_no_name, plain_scripts_are_left,
+};
 use swc_base_rename_laws::{normal_form_has_new_names, normal_form_keeps_spans};
 use swc_base_rename_scoped_laws::names_are_apart;
 use swc_base_resolver_laws::resolved_names_mean_their_ids;
 use swc_tree_grammar_texts::texts_are_as_writable;
 use swc_tree_sites_laws::left_mean_their_ids;
-use swc_tree_sites_scripts::{fixed_scripts_lose_no_name, plain_scripts_are_left};
 use swc_tree_sites_tame::{writable_modules_are_tame, writable_normal_form_is_left};
 use swc_tree_sites_written::written_out_loses_none;
 

@@ -32,7 +32,7 @@ use Rattle.swc_base_rename_substitution.specs.Exports.{exported_ids, exported_in
 use Rattle.swc_base_rename_substitution.specs.Substituted.{if_changed, substituted}
 use Rattle.swc_base_rename_substitution.specs.Walk.{each_substituted, items_substituted}
 use Rattle.swc_base_rename_substitution.proofs.Equations.{substituted-Absent, substituted-Flag, substituted-Word, substituted-Text, substituted-Span, substituted_identifier, substituted_list}
-use Rattle.swc_tree_grammar_laws.proofs.Every.{every_list, every_tree}
+use Rattle.swc_base_fixer_laws.specs.Lower.swc_tree_grammar_laws.proofs.Every.{every_list, every_tree}
 use Rattle.swc_base_fixer_laws.proofs.NoNamespaces.{is_free, is_other_in}
 use Rattle.swc_base_rename_laws.proofs.NormalFormPairs.{All, Alike, Becomes, Fields, Spot, Trees, even_property, flag_below, is_double, needed, part, spots, property}
 use Rattle.swc_base_rename_laws.proofs.NormalFormSame.{within_is}

@@ -33,7 +33,7 @@ use Rattle.swc_base_rename_substitution.specs.Walk.{items_substituted}
 use Rattle.swc_base_rename_substitution.proofs.Equations.{substituted-Absent, substituted_identifier, substituted_list}
 use Rattle.swc_base_rename_laws.proofs.NormalFormPairs.{All, Becomes, Fields, Items, Spot, Trees, part, spots, specifier}
 use Rattle.swc_base_rename_laws.proofs.NormalFormTable.{allowed, fields, plain_tree, tree_is}
-use Rattle.swc_tree_grammar_laws.proofs.Every.{every_tree}
+use Rattle.swc_base_fixer_laws.specs.Lower.swc_tree_grammar_laws.proofs.Every.{every_tree}
 use Rattle.swc_base_fixer_laws.proofs.NoNamespaces.{is_free, is_other_in, quiet_fields_free, quiet_is_free, quiet_items_free}
 use Rattle.swc_base_rename_laws.proofs.NormalFormFits.{Given, Named, One, Whole, absent_or, all_begin, begins, double_by, fields_at, first_of, given, item_alone, item_begins, name_there, plain_one, spaceless, span_at, to, tree_of}
 use Rattle.swc_base_rename_laws.proofs.Impossible.{impossible}

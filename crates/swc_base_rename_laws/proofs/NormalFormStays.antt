@@ -26,7 +26,7 @@ use Rattle.swc_base_rename_laws.proofs.NormalFormPairs.{Becomes, Items, Like, pa
 use Rattle.swc_base_rename_laws.proofs.NormalFormSame.{same_like}
 use Rattle.swc_base_rename_laws.proofs.NormalFormStripped.{strip_becomes}
 use Rattle.swc_base_rename_laws.proofs.NormalFormWritten.{written_becomes}
-use Rattle.swc_tree_grammar_laws.proofs.Levelled.{also}
+use Rattle.swc_base_fixer_laws.specs.Lower.swc_tree_grammar_laws.proofs.Levelled.{also}
 use Rattle.swc_base_fixer_laws.proofs.NoNamespaces.{is_free, sound_is_free}
 use Rattle.swc_base_rename_laws.proofs.NormalFormModule.{Exported, all_items, module_becomes, script_becomes, tree_only}
 use Rattle.swc_base_rename_laws.proofs.NormalFormDeclared.{exported_declares}

@@ -7,3 +7,4 @@ pub mod Left
 pub mod Renamed
 pub mod NewTexts
 pub mod Spans
+pub mod Lower

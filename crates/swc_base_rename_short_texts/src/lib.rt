@@ -9,3 +9,6 @@ mod short_texts;
 
 pub use short::{counter_at, short_text};
 pub use short_texts::ShortTexts;
+
+// Libraries below that crates above name through this one.
+pub use swc_base_rename_naming;

@@ -16,7 +16,7 @@ use Rattle.swc_tree_renaming.proofs.Core.{declared_taker}
 use Rattle.swc_tree_renaming.proofs.Global.{module_settled}
 use Rattle.swc_base_rename_analysis.specs.Named.{Named, Renaming, all_count}
 use Rattle.swc_base_rename_analysis.specs.Preserved.{IsPreserved}
-use Rattle.swc_base_rename_naming_laws.specs.Rules.{counting, counting_by}
+use Rattle.swc_base_rename_hygiene_laws.specs.Lower.swc_base_rename_naming_laws.specs.Rules.{counting, counting_by}
 use Rattle.swc_base_rename_hygiene_laws.specs.Renamers.{IsBoundAtTop, KeepsTopApart, TopTextsDiffer}
 use Rattle.swc_base_rename_scoped_laws.specs.Laws.{ChainedIsFlat, KeepsApart}
 use Rattle.swc_base_rename_scoped_laws.proofs.ByIds.{IsAt, from_id, id_of, one_id, rounds_by_ids, to_ids}

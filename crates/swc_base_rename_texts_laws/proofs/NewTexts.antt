@@ -20,7 +20,7 @@ use Rattle.swc_base_rename_substitution.specs.Identifiers.{Changes, id_of}
 use Rattle.swc_base_rename_substitution.specs.Names.{if_other_text, same_text}
 use Rattle.swc_base_rename_substitution.specs.Substituted.{Substituted, substituted}
 use Rattle.swc_base_rename_analysis.specs.Named.{Renaming}
-use Rattle.swc_base_rename_program.specs.Renamed.{hygiene_renaming, new_id_by}
+use Rattle.swc_base_rename_hygiene_laws.specs.Lower.swc_base_rename_program.specs.Renamed.{hygiene_renaming, new_id_by}
 use Rattle.swc_base_rename_laws.specs.NewNames.{HasNewNames}
 use Rattle.swc_base_rename_laws.proofs.NormalFormNames.{normal_form_has_new_names}
 use Rattle.swc_base_rename_laws.proofs.Unchanged.{stays}

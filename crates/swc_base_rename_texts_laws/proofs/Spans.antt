@@ -7,7 +7,7 @@ use Rattle.swc_tree_grammar.proofs.Induction.{Each, by_children}
 use Rattle.swc_tree_grammar_texts.proofs.Cleared.{bare, each_same, map_after, text_absent, text_flag, text_list, text_name, text_span, text_text, text_tree, text_word}
 use Rattle.swc_base_rename_substitution.specs.declared.place.Place.TheVariants as place
 use Rattle.swc_base_rename_substitution.specs.Substituted.{substituted}
-use Rattle.swc_base_rename_program.specs.Renamed.{hygiene_renaming, new_id_by}
+use Rattle.swc_base_rename_hygiene_laws.specs.Lower.swc_base_rename_program.specs.Renamed.{hygiene_renaming, new_id_by}
 use Rattle.swc_base_rename_laws.specs.NewNames.{SameButForNames, nameless}
 use Rattle.swc_base_rename_laws.proofs.NormalFormSpans.{nameless_identifier, nameless_list, nameless_tree, normal_form_keeps_spans}
 use Rattle.swc_base_rename_hygiene_laws.proofs.Hygienic.{none_kept}

@@ -18,8 +18,8 @@ use Rattle.swc_base_rename_substitution.specs.declared.config.Config.{Config}
 use Rattle.swc_base_rename_substitution.specs.Identifiers.{id_of}
 use Rattle.swc_base_rename_analysis.specs.Named.{Named, Renaming}
 use Rattle.swc_base_rename_analysis.specs.Preserved.{IsPreserved}
-use Rattle.swc_base_rename_naming_laws.specs.Rules.{counting}
-use Rattle.swc_base_rename_program.specs.Renamed.{IsHygienic, hygiene_renaming}
+use Rattle.swc_base_rename_hygiene_laws.specs.Lower.swc_base_rename_naming_laws.specs.Rules.{counting}
+use Rattle.swc_base_rename_hygiene_laws.specs.Lower.swc_base_rename_program.specs.Renamed.{IsHygienic, hygiene_renaming}
 use Rattle.swc_base_rename_laws.specs.NewNames.{SameButForNames, outline}
 use Rattle.swc_base_rename_hygiene_laws.specs.Laws.{IsPlain}
 use Rattle.swc_base_rename_hygiene_laws.specs.Renamers.{IsRenamedAndCleared, KeepsTopApart}

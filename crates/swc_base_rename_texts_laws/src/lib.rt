@@ -26,3 +26,6 @@ pub fn renaming_gives_normal_form_new_texts()
 pub fn renaming_keeps_spans()
     ensures { RenamingKeepsSpans }
 {}
+
+// Libraries below that crates above name through this one.
+pub use swc_base_rename_hygiene_laws;

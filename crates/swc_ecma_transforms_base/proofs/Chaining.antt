@@ -29,7 +29,7 @@ use Rattle.swc_base_rename_units.specs.Eval.{HasEval}
 use Rattle.swc_ecma_transforms_base_laws.specs.Sources.{IsSource, ResolvedSourcesAreReady}
 use Rattle.swc_ecma_transforms_base_laws.specs.Headline.{ChainingKeepsForms, ChainingKeepsSources, KeepsItsForm, KeepsItsSource}
 use Rattle.swc_ecma_transforms_base_laws.specs.Renamers.{LawfulRenamersKeepFormsOfSources, LawfulRenamersKeepSources, Suits}
-use Rattle.swc_ecma_transforms_base_settled_laws.specs.Settled.{ChainChangesNothing, IsAnswer}
+use Rattle.swc_ecma_transforms_base_apart_laws.specs.Lower.swc_ecma_transforms_base_settled_laws.specs.Settled.{ChainChangesNothing, IsAnswer}
 use Rattle.swc_ecma_transforms_base.specs.Chained.{ChainsBy, HasFreshMarks, IsChainRefusalBy, IsMarked, IsOnceRenamed, marks_for}
 use Rattle.swc_ecma_transforms_base.specs.Finished.{Finishes, FinishesBy, IsFinishRefusal, IsFinishRefusalBy}
 use Rattle.swc_ecma_transforms_base.specs.Lent.{MovesFor, MovesPartly}

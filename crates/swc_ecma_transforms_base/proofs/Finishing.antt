@@ -27,7 +27,7 @@ use Rattle.swc_base_rename.specs.Renamers.{RefusesSettling, SettlesNames, renami
 use Rattle.swc_ecma_transforms_base_laws.specs.Finished.{FinishingMeetsNoTarget}
 use Rattle.swc_ecma_transforms_base_laws.specs.Headline.{FinishingKeepsForms, FinishingKeepsPromises, IsOfMemoryOrCounters, KeepsItsForm, KeepsItsPromises}
 use Rattle.swc_ecma_transforms_base_laws.specs.Renamers.{LawfulRenamersKeepForms, LawfulRenamersKeepPromises, Suits}
-use Rattle.swc_ecma_transforms_base_settled_laws.specs.Settled.{IsAnswer}
+use Rattle.swc_ecma_transforms_base_apart_laws.specs.Lower.swc_ecma_transforms_base_settled_laws.specs.Settled.{IsAnswer}
 use Rattle.swc_base_rename_analysis.specs.Named.{Renaming}
 use Rattle.swc_base_rename_hygiene_laws.specs.Laws.{IsFinishable}
 use Rattle.swc_base_rename_hygiene_laws.specs.Renamers.{IsLawful, IsRenamedAndCleared, KeepsTopApart}

@@ -1,3 +1,4 @@
 pub mod Chained
 pub mod Finished
 pub mod Lent
+pub mod Lower

@@ -29,21 +29,21 @@ use Rattle.swc_base_rename_substitution.specs.Substituted.{substituted}
 use Rattle.swc_base_rename_program.specs.Renamed.{hygiene_renaming, new_id_by}
 use Rattle.swc_base_rename_hygiene_laws.specs.Laws.{HygieneStaysFitting, HygieneStaysSettled, HygieneStaysWritable}
 use Rattle.swc_base_rename_hygiene_laws.proofs.StaysWritable.{plain_names}
-use Rattle.swc_base_rename_texts_laws.proofs.NewTexts.{substituted_given}
-use Rattle.swc_base_rename_errors_laws.specs.Laws.{AnswerHasNoEarlyErrorOfNames}
-use Rattle.swc_base_rename_errors_laws.proofs.Programs.{goal_open}
-use Rattle.swc_base_rename_ids_laws.specs.Laws.{IsSettledIfScript}
-use Rattle.swc_base_rename_ids_laws.proofs.Programs.{script_of_goal}
+use Rattle.swc_ecma_transforms_base_settled_laws.specs.Lower.swc_base_rename_texts_laws.proofs.NewTexts.{substituted_given}
+use Rattle.swc_ecma_transforms_base_settled_laws.specs.Lower.swc_base_rename_errors_laws.specs.Laws.{AnswerHasNoEarlyErrorOfNames}
+use Rattle.swc_ecma_transforms_base_settled_laws.specs.Lower.swc_base_rename_errors_laws.proofs.Programs.{goal_open}
+use Rattle.swc_ecma_transforms_base_settled_laws.specs.Lower.swc_base_rename_ids_laws.specs.Laws.{IsSettledIfScript}
+use Rattle.swc_ecma_transforms_base_settled_laws.specs.Lower.swc_base_rename_ids_laws.proofs.Programs.{script_of_goal}
 use Rattle.swc_base_rename_contexts_laws.specs.Laws.{SubstitutionNeedsNoContexts, id_of_label, labelled_changes, new_text, own_label, with_label}
 use Rattle.swc_base_rename_meetings_laws.specs.Laws.{DuePairsKeepMeetings, StrippingAddsNoPairs}
 use Rattle.swc_base_rename_meetings_names_laws.specs.Laws.{SubstitutionKeepsMeetings, anew, other_pair}
 use Rattle.swc_base_rename_settled_laws.specs.Laws.{BlocksAddNoPairs, ProgramsTakeAll}
 use Rattle.swc_base_rename_settled_laws.specs.Meetings.{Met, met}
-use Rattle.swc_base_rename_labels_laws.specs.Labels.{labelled}
-use Rattle.swc_base_rename_labels_laws.specs.Laws.{HasNewLabels, IsReady, IsResolvedSo}
-use Rattle.swc_base_rename_labels_laws.proofs.Changed.{fits_changed, nameless_changed}
-use Rattle.swc_base_rename_labels_laws.proofs.Programs.{settled_shape}
-use Rattle.swc_base_rename_labels_laws.proofs.Texts.{fits_labelled}
+use Rattle.swc_base_rename_carried_laws.specs.Lower.swc_base_rename_labels_laws.specs.Labels.{labelled}
+use Rattle.swc_base_rename_carried_laws.specs.Lower.swc_base_rename_labels_laws.specs.Laws.{HasNewLabels, IsReady, IsResolvedSo}
+use Rattle.swc_base_rename_carried_laws.specs.Lower.swc_base_rename_labels_laws.proofs.Changed.{fits_changed, nameless_changed}
+use Rattle.swc_base_rename_carried_laws.specs.Lower.swc_base_rename_labels_laws.proofs.Programs.{settled_shape}
+use Rattle.swc_base_rename_carried_laws.specs.Lower.swc_base_rename_labels_laws.proofs.Texts.{fits_labelled}
 use Rattle.swc_base_rename_carried_laws.specs.Laws.{LabelledAnswersAreApartGiven, LabelsMeetAsTheOld}
 use Rattle.swc_ecma_transforms_base_settled_laws.specs.Settled.{AnswersAreApart, AnswersAreCleanPrograms, ChainChangesNothing, ChainChangesNothingGiven, ChainChangesSpans, ChainChangesSpansGiven}
 

@@ -11,13 +11,13 @@ use swc_base_fixer_laws::targets_stand_bare;
 use swc_base_fixer_texts::fixing_needs_no_contexts;
 use swc_base_rename_carried_laws::labelled_answers_are_apart;
 use swc_base_rename_contexts_laws::substitution_needs_no_contexts;
-use swc_base_rename_errors_laws::answer_has_no_early_error_of_names;
 use swc_base_rename_hygiene_laws::{
     hygiene_stays_fitting, hygiene_stays_settled, hygiene_stays_writable,
 };
 use swc_base_rename_meetings_laws::{due_pairs_keep_meetings, stripping_adds_no_pairs};
 use swc_base_rename_meetings_names_laws::substitution_keeps_meetings;
 use swc_base_rename_settled_laws::{blocks_add_no_pairs, programs_take_all};
+use swc_ecma_transforms_base_settled_laws::swc_base_rename_errors_laws::answer_has_no_early_error_of_names;
 use swc_ecma_transforms_base_settled_laws::{
     answers_are_clean_programs, chain_changes_nothing, chain_changes_spans,
 };

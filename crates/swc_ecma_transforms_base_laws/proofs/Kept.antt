@@ -13,21 +13,21 @@ use Rattle.swc_tree_grammar.specs.Normal.{normal_form}
 use Rattle.swc_tree_grammar.specs.Same.{declared_names, same_tree}
 use Rattle.swc_tree_grammar.specs.Spanless.{spanless}
 use Rattle.swc_tree_grammar.specs.Writable.{Writable}
-use Rattle.swc_tree_sites_scripts.specs.Laws.{FixedScriptsLoseNoName, script_place}
+use Rattle.swc_base_rename_errors_laws.specs.Lower.swc_tree_sites_scripts.specs.Laws.{FixedScriptsLoseNoName, script_place}
 use Rattle.swc_base_fixer_laws.specs.Laws.{FixedFits, FixedFitsTable, NormalFormStays, TargetsStandBare}
 use Rattle.swc_base_fixer_sites.specs.Laws.{FixerStaysClean}
 use Rattle.swc_base_rename_errors_laws.proofs.Programs.{goal_open}
 use Rattle.swc_base_rename_hygiene_laws.specs.Laws.{HygieneIsLawful, IsFinishable, RenamingKeepsNormalForm, RenamingStaysFitting, RenamingStaysSettled, RenamingStaysWritable}
 use Rattle.swc_base_rename_hygiene_laws.specs.Renamers.{IsLawful, IsRenamedAndCleared, SparesGlobalValues}
 use Rattle.swc_base_rename_laws.specs.NewNames.{nameless}
-use Rattle.swc_base_rename_texts_laws.specs.Laws.{RenamingKeepsSpans}
+use Rattle.swc_base_rename_errors_laws.specs.Lower.swc_base_rename_texts_laws.specs.Laws.{RenamingKeepsSpans}
 use Rattle.swc_base_rename_analysis.specs.Named.{Renaming}
 use Rattle.swc_base_rename_program.specs.Renamed.{hygiene_renaming}
 use Rattle.swc_base_rename_scoped_laws.specs.Laws.{KeepsApart, PreservesNone}
 use Rattle.swc_base_rename_scoped_laws.proofs.Apart.{none_preserved}
 use Rattle.swc_base_rename_substitution.specs.declared.config.Config.{Config}
-use Rattle.swc_base_rename_ids_laws.specs.Laws.{IsSettledIfScript, IsWrittenAs, RenamersKeepIds, RenamersKeepMeanings}
-use Rattle.swc_base_rename_ids_laws.proofs.Programs.{by_goal}
+use Rattle.swc_base_alpha_chained_laws.specs.Lower.swc_base_rename_ids_laws.specs.Laws.{IsSettledIfScript, IsWrittenAs, RenamersKeepIds, RenamersKeepMeanings}
+use Rattle.swc_base_alpha_chained_laws.specs.Lower.swc_base_rename_ids_laws.proofs.Programs.{by_goal}
 use Rattle.swc_base_alpha_chained_laws.specs.Laws.{RenamersKeepSources}
 use Rattle.swc_ecma_transforms_base_laws.specs.Finished.{FinishingKeepsIds, FinishingKeepsMeanings, FinishingKeepsPrograms, FinishingKeepsSources, FinishingKeepsSpans, FinishingMeetsNoTarget}
 use Rattle.swc_ecma_transforms_base_laws.specs.Renamers.{FinishingRenamedKeepsIds, FinishingRenamedKeepsMeanings, FinishingRenamedKeepsPrograms, FinishingRenamedKeepsSources, FinishingRenamedKeepsSpans, FinishingRenamedMeetsNoTarget, RenamersThatPreserveNoneSuit, Suits}

@@ -11,7 +11,7 @@ use Rattle.swc_tree_grammar.specs.Normal.{normal_form}
 use Rattle.swc_tree_grammar.specs.Same.{SameButForBoundNames}
 use Rattle.swc_tree_grammar.specs.Writable.{is_writable}
 use Rattle.swc_tree_grammar_texts.specs.Laws.{TextsAreAsWritable}
-use Rattle.swc_base_rename_ids_laws.proofs.Exported.{normal_cleared, texts_again}
+use Rattle.swc_base_alpha_chained_laws.specs.Lower.swc_base_rename_ids_laws.proofs.Exported.{normal_cleared, texts_again}
 use Rattle.swc_base_rename_laws.specs.NewNames.{nameless, nameless_step}
 use Rattle.swc_base_rename_source_laws.specs.Laws.{ReadersNeedNoContexts, SamenessNeedsNoContexts}
 use Rattle.swc_base_rename_units.specs.Eval.{HasEval}

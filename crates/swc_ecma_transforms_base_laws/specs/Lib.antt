@@ -2,3 +2,4 @@ pub mod Finished
 pub mod Sources
 pub mod Headline
 pub mod Renamers
+pub mod Lower

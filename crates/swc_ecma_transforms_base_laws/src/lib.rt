@@ -11,21 +11,23 @@ ghost use Rattle.swc_ecma_transforms_base_laws.specs.Renamers.{LawfulRenamersKee
 ghost use Rattle.swc_ecma_transforms_base_laws.specs.Sources.{ResolvedSourcesAreReady, ResolvedSourcesHaveTheirForm};
 
 use swc_base_alpha_chained_laws::renamers_keep_sources;
+use swc_base_alpha_chained_laws::swc_base_rename_ids_laws::{
+    renamers_keep_ids, renamers_keep_meanings,
+};
 use swc_base_fixer_laws::{fixed_fits, fixed_fits_table, normal_form_stays, targets_stand_bare};
 use swc_base_fixer_sites::fixer_stays_clean;
 use swc_base_rename_errors_laws::renamed_answer_has_no_early_error_of_names;
+use swc_base_rename_errors_laws::swc_base_rename_texts_laws::renaming_keeps_spans;
+use swc_base_rename_errors_laws::swc_tree_sites_scripts::fixed_scripts_lose_no_name;
 use swc_base_rename_hygiene_laws::{
     hygiene_is_lawful, hygiene_spares_global_values, renaming_keeps_normal_form,
     renaming_stays_fitting, renaming_stays_settled, renaming_stays_writable,
 };
-use swc_base_rename_ids_laws::{renamers_keep_ids, renamers_keep_meanings};
 use swc_base_rename_source_laws::{readers_need_no_contexts, sameness_needs_no_contexts};
-use swc_base_rename_texts_laws::renaming_keeps_spans;
 use swc_base_resolver_laws::{
     clean_programs_become_well_scoped, resolved_names_mean_their_ids, resolved_scripts_are_plain,
 };
 use swc_tree_grammar_texts::texts_are_as_writable;
-use swc_tree_sites_scripts::fixed_scripts_lose_no_name;
 
 /// What a lawful renamer, whose preserved ids are apart where the module alone is round them, and then the fixer make of a program that can
 /// be written down, where nothing reads names and classes don't keep theirs, can be written down, is derived by the grammar, and has the

@@ -18,7 +18,7 @@ use Rattle.swc_tree_grammar.specs.Targets.{all_bare}
 use Rattle.swc_base_fixer_laws.specs.Laws.{FixedFitsTable}
 use Rattle.swc_base_fixer_program.specs.Answers.{answer_to}
 use Rattle.swc_base_mangle.specs.Mangled.{IsMangleRefusal}
-use Rattle.swc_base_rename_errors_laws.proofs.Programs.{goal_open}
+use Rattle.swc_base_mangle_laws.specs.Lower.swc_base_rename_errors_laws.proofs.Programs.{goal_open}
 use Rattle.swc_base_rename_substitution.specs.declared.config.Config.{Config}
 use Rattle.swc_base_rename_substitution.specs.Room.{has_room}
 use Rattle.swc_ecma_transforms_base_mangle.specs.Mangled.{IsRefusal, OnceMangled, marks_for}

@@ -5,8 +5,8 @@ ghost use Rattle.swc_tree.specs.Passes.{IsEmptied, IsEmptiedScript};
 ghost use Rattle.swc_tree_modules.specs.Nodes.{module_node, script_node};
 ghost use Rattle.swc_tree_renaming.specs.Apart.{IsPlainScript};
 ghost use Rattle.swc_base_resolver_program.specs.Marked.{MarksOk};
-ghost use Rattle.swc_ecma_transforms_base_laws.specs.Headline.{KeepsItsForm, KeepsItsSource};
-ghost use Rattle.swc_ecma_transforms_base_laws.specs.Sources.{IsSource};
+ghost use Rattle.swc_base_mangle_laws.specs.Lower.swc_ecma_transforms_base_laws.specs.Headline.{KeepsItsForm, KeepsItsSource};
+ghost use Rattle.swc_base_mangle_laws.specs.Lower.swc_ecma_transforms_base_laws.specs.Sources.{IsSource};
 ghost use Rattle.swc_ecma_transforms_base_mangle.specs.Mangled.{GainsMarks, IsMadeShort, IsRefusal};
 
 use crate::nodes::mangle_node;

@@ -19,7 +19,7 @@ use Rattle.swc_tree_grammar_texts.proofs.Cleared.{bare}
 use Rattle.swc_base_fixer_laws.specs.Laws.{TargetsStandBare}
 use Rattle.swc_base_fixer_laws.proofs.Answer.{due_fits}
 use Rattle.swc_base_fixer_texts.specs.Laws.{FixingNeedsNoContexts}
-use Rattle.swc_base_rename_texts_laws.proofs.Cleared.{bare_there}
+use Rattle.swc_base_rename_errors_laws.specs.Lower.swc_base_rename_texts_laws.proofs.Cleared.{bare_there}
 use Rattle.swc_tree_spaces.specs.NoTypes.{ListsAreItems}
 use Rattle.swc_base_fixer_laws.proofs.Fixed.{fixed_fits}
 use Rattle.swc_base_fixer_laws.proofs.NoNamespaces.{writable_has_no_namespaces}

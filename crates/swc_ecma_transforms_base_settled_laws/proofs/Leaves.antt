@@ -9,7 +9,7 @@ use Rattle.swc_base_rename_substitution.specs.Names.{if_other_text}
 use Rattle.swc_base_rename_laws.proofs.Unchanged.{stays}
 use Rattle.swc_base_rename_program.specs.Renamed.{hygiene_renaming, new_id_by}
 use Rattle.swc_base_rename_hygiene_laws.proofs.StaysWritable.{plain_names}
-use Rattle.swc_base_rename_texts_laws.proofs.NewTexts.{substituted_given}
+use Rattle.swc_base_rename_errors_laws.specs.Lower.swc_base_rename_texts_laws.proofs.NewTexts.{substituted_given}
 use Rattle.swc_base_rename_settled_laws.specs.Laws.{HygieneKeepsApart}
 use Rattle.swc_ecma_transforms_base_settled_laws.specs.Settled.{HygieneLeavesApart}
 

@@ -11,6 +11,10 @@ use swc_base_fixer_laws::{
 };
 use swc_base_fixer_texts::fixing_needs_no_contexts;
 use swc_base_rename_errors_laws::answer_has_no_early_error_of_names;
+use swc_base_rename_errors_laws::swc_base_rename_texts_laws::renaming_gives_normal_form_new_texts;
+use swc_base_rename_errors_laws::swc_tree_sites_scripts::{
+    fixed_scripts_lose_no_name, plain_scripts_are_left,
+};
 use swc_base_rename_hygiene_laws::{
     hygiene_is_lawful, hygiene_spares_global_values, hygiene_stays_fitting, hygiene_stays_writable,
     renaming_stays_fitting, renaming_stays_settled, renaming_stays_writable,
@@ -22,9 +26,7 @@ use swc_base_rename_readers_laws::{
 use swc_base_rename_scoped_laws::{chained_is_flat, names_are_apart};
 use swc_base_rename_settled_laws::hygiene_keeps_apart;
 use swc_base_rename_source_laws::readers_need_no_contexts;
-use swc_base_rename_texts_laws::renaming_gives_normal_form_new_texts;
 use swc_base_resolver_laws::clean_programs_become_well_scoped;
-use swc_tree_sites_scripts::{fixed_scripts_lose_no_name, plain_scripts_are_left};
 
 /// Where texts are apart where ids meet, hygiene leaves a tree as it is, but without contexts.
 pub fn hygiene_leaves_apart()
@@ -94,3 +96,6 @@ pub fn chain_changes_nothing()
     readers_need_no_contexts();
     second_run_changes_nothing();
 }
+
+// Libraries below that crates above name through this one.
+pub use swc_base_rename_errors_laws;

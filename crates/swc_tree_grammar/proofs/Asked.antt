@@ -1,6 +1,6 @@
 -- What being writable says at each form of a node, in terms of the nodes below it.
 use Rattle.std.proofs.Common.{◌≡◌, false, List, [], ◌∷◌, map, rules, refl, ap, ◌∙◌}
-use Rattle.swc_tree_marks.specs.declared.ident.Ident.{Ident}
+use Rattle.swc_tree_node.specs.Lower.swc_tree_marks.specs.declared.ident.Ident.{Ident}
 use Rattle.swc_tree_node.specs.declared.kind.Kind.{Kind}
 use Rattle.swc_tree_node.specs.declared.node.Node.{Node, List as Many, Identifier, Tree, fold-Node, the_lemmas}
 use Rattle.swc_tree_node.specs.declared.node.Node.TheOpen.{Node-F}

@@ -1,7 +1,7 @@
 -- Which first branches of an `if` get a block, so that an `else` can't change its `if` (ECMA-262, 14.6, the
 -- note on the choice of the nearest `if`).
 use Rattle.std.specs.Prelude.{[], ◌∷◌, Bool, true, false, if◌then◌else◌}
-use Rattle.swc_tree_marks.specs.declared.span.Span.{Span as Range}
+use Rattle.swc_tree_node.specs.Lower.swc_tree_marks.specs.declared.span.Span.{Span as Range}
 use Rattle.swc_tree_node.specs.declared.kind.Kind.TheVariants as kind
 use Rattle.swc_tree_node.specs.declared.node.Node.{Node, Span, List as Many, Tree, roll-Node, fold-Node}
 use Rattle.swc_tree_node.specs.declared.node.Node.TheOpen.{Node-F}

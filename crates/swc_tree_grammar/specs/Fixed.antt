@@ -4,7 +4,7 @@
 -- program that is goes by the span of the content, so this is said of programs whose expressions differ in span.
 use Rattle.std.specs.Prelude.{◌≡◌, List, [], ◌∷◌, ◌++◌, map, reverse, Bool, true, false, not, ◌&&◌, ◌==◌, IsTrue, Option, Some, if◌then◌else◌}
 use Rattle.std.specs.List.{flat_map, filter, list_any}
-use Rattle.swc_tree_marks.specs.declared.span.Span.{Span as Range}
+use Rattle.swc_tree_node.specs.Lower.swc_tree_marks.specs.declared.span.Span.{Span as Range}
 use Rattle.swc_tree_node.specs.declared.kind.Kind.{Kind}
 use Rattle.swc_tree_node.specs.declared.kind.Kind.TheVariants as kind
 use Rattle.swc_tree_node.specs.declared.kind.Class.TheVariants as class

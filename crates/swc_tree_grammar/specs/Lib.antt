@@ -19,3 +19,4 @@ pub mod Places
 pub mod Spanless
 pub mod Fixed
 pub mod Spans
+pub mod Lower

@@ -4,7 +4,7 @@
 -- at the end of what they trail. Those of a pair move to its content.
 use Rattle.std.specs.Prelude.{List, [], ◌∷◌, ◌++◌, reverse}
 use Rattle.std.specs.List.{flat_map}
-use Rattle.swc_tree_marks.specs.declared.span.Span.{Span as Range}
+use Rattle.swc_tree_node.specs.Lower.swc_tree_marks.specs.declared.span.Span.{Span as Range}
 use Rattle.swc_tree_node.specs.declared.node.Node.{Node, fold-Node, map-Node}
 use Rattle.swc_tree_node.specs.declared.node.Node.TheOpen.{Node-F}
 use Rattle.swc_tree_grammar.specs.declared.pairs.Pair.{Pair}

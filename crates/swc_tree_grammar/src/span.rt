@@ -3,7 +3,7 @@ ghost use Rattle.std.specs.Prelude.{◌≡◌, ◌<◌, length, IfSome};
 ghost use Rattle.swc_tree_grammar.specs.Blocks.{span_of as place_of};
 ghost use Rattle.swc_tree_grammar.specs.Spans.{span_field as span_field_of};
 
-use swc_tree_marks::{DUMMY_SP, Span};
+use swc_tree_node::swc_tree_marks::{DUMMY_SP, Span};
 use swc_tree_node::{Kind, Node};
 
 // The field that says where a node stands, if it has fields.

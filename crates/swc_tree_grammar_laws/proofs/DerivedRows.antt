@@ -7,7 +7,7 @@ use Rattle.swc_tree_node.specs.declared.kind.Kind.TheVariants as kind
 use Rattle.swc_tree_node.specs.declared.kind.Word.{Word as Word'}
 use Rattle.swc_tree_node.specs.declared.node.Node.{Node, List as Many, Tree, out-Node, the_lemmas}
 use Rattle.swc_tree_node.specs.declared.node.Node.TheOpen.{Node-F}
-use Rattle.swc_tree_scoping.specs.Places.{has_use_strict, block_in}
+use Rattle.swc_tree_grammar.specs.Lower.swc_tree_scoping.specs.Places.{has_use_strict, block_in}
 use Rattle.swc_tree_grammar.specs.Shapes.{items_of}
 use Rattle.swc_tree_grammar.specs.Kinds.{has_kind, is_private_name, is_block}
 use Rattle.swc_tree_grammar.specs.Levels.{word_of, is_in, is_absent}

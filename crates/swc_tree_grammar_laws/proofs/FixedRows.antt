@@ -3,7 +3,7 @@ use Rattle.std.proofs.Common.{◌≡◌, ℕ, List, [], ◌∷◌, true, false, 
 use Rattle.swc_tree_node.specs.declared.kind.Kind.TheVariants as kind
 use Rattle.swc_tree_node.specs.declared.kind.Word.TheVariants as word
 use Rattle.swc_tree_node.specs.declared.node.Node.{Node, Word, Identifier, Tree, the_lemmas}
-use Rattle.swc_tree_comments.specs.declared.moves.Move.TheVariants.{Leading, Trailing}
+use Rattle.swc_tree_grammar.specs.Lower.swc_tree_comments.specs.declared.moves.Move.TheVariants.{Leading, Trailing}
 use Rattle.swc_tree_grammar.specs.Pairs.{pairs}
 use Rattle.swc_tree_grammar.specs.Fixed.{recorded, moves_to, expression_spans, all_differ}
 use Rattle.swc_tree_grammar.specs.Spanless.{spanless}

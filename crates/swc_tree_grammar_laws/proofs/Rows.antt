@@ -6,7 +6,7 @@ use Rattle.swc_tree_node.specs.declared.node.Node.{Node, Absent, Flag, Word, Tex
 use Rattle.swc_tree_grammar.specs.Stripped.{stripped}
 use Rattle.swc_tree_grammar.specs.Blocks.{with_blocks, no_span}
 use Rattle.swc_tree_grammar.specs.Targets.{all_bare}
-use Rattle.swc_tree_comments.specs.declared.moves.Move.TheVariants.{Leading, Trailing}
+use Rattle.swc_tree_grammar.specs.Lower.swc_tree_comments.specs.declared.moves.Move.TheVariants.{Leading, Trailing}
 use Rattle.swc_tree_grammar.specs.Pairs.{moves}
 
 abbrev pub at : ℕ → ℕ → Node

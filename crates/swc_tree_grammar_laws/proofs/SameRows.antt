@@ -7,10 +7,10 @@ use Rattle.swc_tree_marks.specs.declared.ident.Ident.{Ident}
 use Rattle.swc_tree_grammar.specs.Same.{declared_names, declared_step, same_in, same_step, same_tree, is_same}
 use Rattle.swc_tree_grammar.specs.Blocks.{no_span}
 use Rattle.swc_tree_grammar.specs.Normal.{normal_form}
-use Rattle.swc_tree_scoping.specs.declared.places.Place.{Place}
-use Rattle.swc_tree_scoping.specs.Places.{children_in, place_below}
-use Rattle.swc_tree_scoping.specs.Folds.{each_in, fold_in_place}
-use Rattle.swc_tree_scoping.proofs.Under.{fold_in_place_out}
+use Rattle.swc_tree_grammar.specs.Lower.swc_tree_scoping.specs.declared.places.Place.{Place}
+use Rattle.swc_tree_grammar.specs.Lower.swc_tree_scoping.specs.Places.{children_in, place_below}
+use Rattle.swc_tree_grammar.specs.Lower.swc_tree_scoping.specs.Folds.{each_in, fold_in_place}
+use Rattle.swc_tree_grammar.specs.Lower.swc_tree_scoping.proofs.Under.{fold_in_place_out}
 use Rattle.swc_tree_grammar_laws.proofs.Rows.{at, name, bound, statement}
 
 -- `let a; ..`

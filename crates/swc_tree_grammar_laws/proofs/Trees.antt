@@ -5,7 +5,7 @@ use Rattle.swc_tree_node.specs.declared.kind.Kind.TheVariants as kind
 use Rattle.swc_tree_node.specs.declared.kind.Word.{Word as Word'}
 use Rattle.swc_tree_node.specs.declared.kind.Word.TheVariants as word
 use Rattle.swc_tree_node.specs.declared.node.Node.{Node, Absent, Flag, Word, Text, List as Many, Tree, out-Node}
-use Rattle.swc_tree_scoping.specs.Places.{Path}
+use Rattle.swc_tree_grammar.specs.Lower.swc_tree_scoping.specs.Places.{Path}
 use Rattle.swc_tree_grammar.specs.Blocks.{no_span}
 use Rattle.swc_tree_grammar.specs.Grammar.{Context, derives}
 use Rattle.swc_tree_grammar.specs.Due.{Places, paired_in}

@@ -2,3 +2,4 @@ pub mod Contexts
 pub mod Errors
 pub mod Globals
 pub mod Listed
+pub mod Lower

@@ -15,3 +15,6 @@ pub use globals::Globals;
 pub use ident::{Atom, Id, Ident, JsWord};
 pub use mark::Mark;
 pub use span::{BytePos, DUMMY_SP, Span};
+
+// Libraries below that crates above name through this one.
+pub use swc_tree_items;

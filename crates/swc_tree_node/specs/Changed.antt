@@ -1,8 +1,8 @@
 -- A node with other parts.
 use Rattle.std.specs.Prelude.{List, Option, Some, None}
 use denote.RattleType.{RattleType}
-use Rattle.swc_tree_items.specs.contracts.items.Items as items
-use Rattle.swc_tree_items.specs.contracts.boxed.Boxed as boxed
+use Rattle.swc_tree_marks.specs.Lower.swc_tree_items.specs.contracts.items.Items as items
+use Rattle.swc_tree_marks.specs.Lower.swc_tree_items.specs.contracts.boxed.Boxed as boxed
 use Rattle.swc_tree_marks.specs.contracts.ident.Ident as ident
 use Rattle.swc_tree_marks.specs.declared.ident.Ident.{Ident}
 use Rattle.swc_tree_node.specs.contracts.node.Node.{the_row}

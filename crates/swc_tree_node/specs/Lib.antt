@@ -3,3 +3,4 @@ pub mod Changed
 pub mod Fits
 pub mod Sameness
 pub mod Parts
+pub mod Lower

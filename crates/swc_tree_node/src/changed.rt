@@ -7,8 +7,8 @@ ghost use Rattle.swc_tree_node.specs.Changed.{fields_in, ident_row, items_in, no
 ghost use Rattle.swc_tree_node.specs.Parts.{ident_of};
 
 use crate::node::Node;
-use swc_tree_items::{Boxed, Items};
 use swc_tree_marks::Ident;
+use swc_tree_marks::swc_tree_items::{Boxed, Items};
 
 impl Node {
     /// What stands right below, to be changed in place: the items of a list, or the fields of a tree.

@@ -3,7 +3,7 @@ ghost use Rattle.std.specs.Prelude.{◌≡◌, IfOk};
 
 use crate::node::Node;
 use std::alloc::AllocError;
-use swc_tree_items::Items;
+use swc_tree_marks::swc_tree_items::Items;
 
 impl Clone for Node {
     ghost is_clone = { λ node other. other ≡ node };

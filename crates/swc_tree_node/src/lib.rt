@@ -17,3 +17,7 @@ pub use kind::{Class, Kind, Word, WordClass};
 pub use node::Node;
 pub use slot::{Content, Field, Role, Slot};
 pub use table::{fields_of, is_identifier, kinds_of, name_of, spelling_of, words_of};
+
+// Libraries below that crates above name through this one.
+pub use swc_tree_marks;
+pub use swc_tree_marks::swc_tree_items;

@@ -1,6 +1,6 @@
 //! The node of the syntax tree.
 use crate::kind::{Kind, Word};
-use swc_tree_items::{Boxed, Items, Text};
+use swc_tree_marks::swc_tree_items::{Boxed, Items, Text};
 use swc_tree_marks::{Ident, Span};
 
 /// A node of the syntax tree, a leaf of one, or a list of nodes.

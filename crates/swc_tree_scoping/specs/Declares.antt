@@ -1,6 +1,6 @@
 -- What each scope declares (ECMA-262, 8.2, 14.2.2, 15.1.3, 15.2.4; Annex B.3.2 and B.3.3 for functions in blocks).
 use Rattle.std.specs.Prelude.{◌≡◌, ℕ, Bool, true, false, ◌⊎◌, IsTrue, Option, Some, None, List, [], ◌∷◌}
-use Rattle.swc_tree_marks.specs.declared.ident.Ident.{Ident}
+use Rattle.swc_tree_node.specs.Lower.swc_tree_marks.specs.declared.ident.Ident.{Ident}
 use Rattle.swc_tree_node.specs.declared.kind.Kind.{Kind}
 use Rattle.swc_tree_node.specs.declared.node.Node.{Node, Identifier}
 use Rattle.swc_tree_scoping.specs.declared.places.Standing.{Standing}

@@ -1,7 +1,7 @@
 -- The same tree, read with other names: by ids, where a text and a context make the name, or by texts alone. What is
 -- said of names on a tree without contexts is so said of ids, or of texts with all identifiers counted.
 use Rattle.std.specs.Prelude.{ℕ, List, [], ◌∷◌, ◌++◌, length}
-use Rattle.swc_tree_marks.specs.declared.ident.Ident.{Ident}
+use Rattle.swc_tree_node.specs.Lower.swc_tree_marks.specs.declared.ident.Ident.{Ident}
 use Rattle.swc_tree_node.specs.declared.node.Node.{Node, Identifier, roll-Node, fold-Node}
 use Rattle.swc_tree_node.specs.declared.node.Node.TheOpen.{Node-F}
 

@@ -1,8 +1,8 @@
 -- What a resolver may answer: each identifier with the mark of its scope.
 use Rattle.std.specs.Prelude.{◌≡◌, ◌≢◌, ℕ, zero, suc, ◌-◌, Bool, true, false, ◌&&◌, ◌||◌, ◌⊎◌, ◌↔◌, IsTrue, Option, Some, None, List, [], ◌∷◌, Contains, codes, if◌then◌else◌}
 use Rattle.std.specs.Str.{bytes_eq}
-use Rattle.swc_tree_marks.specs.declared.ident.Ident.{Ident}
-use Rattle.swc_tree_marks.specs.Globals.{with_fresh_marks}
+use Rattle.swc_tree_node.specs.Lower.swc_tree_marks.specs.declared.ident.Ident.{Ident}
+use Rattle.swc_tree_node.specs.Lower.swc_tree_marks.specs.Globals.{with_fresh_marks}
 use Rattle.swc_tree_node.specs.declared.kind.Kind.{Kind}
 use Rattle.swc_tree_node.specs.declared.kind.Kind.TheVariants as kind
 use Rattle.swc_tree_node.specs.declared.node.Node.{Node, Absent, Flag, Word, Text, Span, List as Many, Identifier, Tree, out-Node, fold-Node}

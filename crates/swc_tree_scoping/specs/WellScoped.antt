@@ -2,7 +2,7 @@
 -- 14.15.1, 15.1.1, 15.2.1, 15.3.1, 16.2.1; Annex B.3.2 to B.3.4). All is said of a tree without contexts, and then
 -- read by ids or by texts.
 use Rattle.std.specs.Prelude.{◌≡◌, ◌≢◌, ℕ, Bool, true, false, ◌⊎◌, IsTrue, Some, List, [], ◌∷◌, ◌++◌, Contains, codes}
-use Rattle.swc_tree_marks.specs.declared.ident.Ident.{Ident}
+use Rattle.swc_tree_node.specs.Lower.swc_tree_marks.specs.declared.ident.Ident.{Ident}
 use Rattle.swc_tree_node.specs.declared.kind.Kind.{Kind}
 use Rattle.swc_tree_node.specs.declared.kind.Kind.TheVariants as kind
 use Rattle.swc_tree_node.specs.declared.slot.Role.TheVariants as role

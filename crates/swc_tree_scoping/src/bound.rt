@@ -6,9 +6,9 @@ ghost use Rattle.swc_tree_scoping.specs.BoundNames.{bound_ids, declared_ids, id_
 ghost use Rattle.swc_tree_scoping.specs.Places.{field_role};
 
 use crate::below::role_of_field;
-use swc_tree_items::Items;
-use swc_tree_marks::{Id, Ident, NoMemory};
 use swc_tree_node::fields::{class_decl, fn_decl};
+use swc_tree_node::swc_tree_items::Items;
+use swc_tree_node::swc_tree_marks::{Id, Ident, NoMemory};
 use swc_tree_node::{Kind, Node, Role};
 
 // Adds the id of an identifier, if its kind is that of patterns.

@@ -17,7 +17,7 @@ use Rattle.swc_tree_grammar.proofs.Places.{one}
 use Rattle.swc_tree_sites.specs.Sites.{Sites, taken_at}
 use Rattle.swc_tree_sites.specs.Smaller.{AreKept, In, Sub}
 use Rattle.swc_tree_sites.proofs.Kept.{S}
-use Rattle.swc_tree_sites_laws.proofs.LeftStripped.{stripped_takes}
+use Rattle.swc_base_fixer_sites.specs.Lower.swc_tree_sites_laws.proofs.LeftStripped.{stripped_takes}
 use Rattle.swc_tree_sites_written.specs.Tame.{is_tame}
 use Rattle.swc_tree_sites_written.proofs.Modules.{module_left, module_whole}
 use Rattle.swc_tree_sites_written.proofs.NormalForms.{normal_left}

@@ -15,3 +15,7 @@ pub fn plain_scripts_are_left()
 pub fn fixed_scripts_lose_no_name()
     ensures { FixedScriptsLoseNoName }
 {}
+
+// Libraries below that crates above name through this one.
+pub use swc_tree_sites_tame;
+pub use swc_tree_sites_written;

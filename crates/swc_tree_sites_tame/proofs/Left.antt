@@ -43,7 +43,7 @@ use Rattle.swc_tree_sites.proofs.Kept.{S, out_step}
 use Rattle.swc_tree_sites.proofs.Leaves.{leaves_slot, may, same}
 use Rattle.swc_tree_sites.proofs.Loose.{pends}
 use Rattle.swc_tree_sites.proofs.Pending.{apart, keyword_cases, left_fits}
-use Rattle.swc_tree_sites_laws.proofs.Expressions.{P, of_identifier}
+use Rattle.swc_tree_sites_written.specs.Lower.swc_tree_sites_laws.proofs.Expressions.{P, of_identifier}
 use Rattle.swc_tree_sites_written.specs.Tame.{is_loose}
 use Rattle.swc_tree_sites_tame.proofs.Asked.{code}
 use Rattle.swc_tree_sites_tame.proofs.Sloppy.{Nested, is_around, nested_field, strict_branch}

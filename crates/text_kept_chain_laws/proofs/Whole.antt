@@ -16,9 +16,9 @@ use Rattle.swc_base_rename_substitution.specs.Room.{has_room}
 use Rattle.swc_base_rename_program.specs.Renamed.{hygiene_renaming}
 use Rattle.swc_base_rename_program.proofs.Fitting.{by_texts_fits}
 use Rattle.text_kept_laws.proofs.Whole.{resolved_shaped, resolved_spelled}
-use Rattle.text_kept_namings_laws.proofs.Whole.{hygiene_words}
-use Rattle.text_kept_stripping_laws.proofs.Whole.{fixer_shape, fixer_spelling, unparen_shape, unparen_spelling}
-use Rattle.text_kept_units_laws.proofs.Whole.{any_hygiene, renaming_fits}
+use Rattle.text_kept_mangle_laws.specs.Lower.text_kept_namings_laws.proofs.Whole.{hygiene_words}
+use Rattle.text_kept_mangle_laws.specs.Lower.text_kept_stripping_laws.proofs.Whole.{fixer_shape, fixer_spelling, unparen_shape, unparen_spelling}
+use Rattle.text_kept_mangle_laws.specs.Lower.text_kept_units_laws.proofs.Whole.{any_hygiene, renaming_fits}
 use Rattle.text_kept_mangle_laws.proofs.Whole.{mangling_texts, short_words}
 use Rattle.text_kept_chain_laws.specs.Laws.{ChainKeepsTexts, FixerKeepsTexts, HasTexts, HygieneKeepsTexts, ShortChainKeepsTexts, ShortNamesKeepTexts, UnparenKeepsTexts}
 use Rattle.text_kept_chain_laws.proofs.Contexts.{remarked_fits}

@@ -14,7 +14,7 @@ use Rattle.text_words.specs.Words.{is_name, reserved as words}
 use Rattle.swc_tree_grammar.specs.Writable.{begins_name, is_digit, is_identifier_text, is_letter, reserved}
 use Rattle.swc_base_rename_short_texts.specs.ShortTexts.{character, past, place, short_text, text_at_place, withheld}
 use Rattle.text_kept_spelling_laws.specs.Laws.{IsWord}
-use Rattle.text_kept_namings_laws.proofs.Numbered.{name_of, name_of_characters}
+use Rattle.text_kept_units_laws.specs.Lower.text_kept_namings_laws.proofs.Numbered.{name_of, name_of_characters}
 
 -- ---- its characters are below 128
 

@@ -10,7 +10,7 @@ use Rattle.swc_base_rename_substitution.specs.Room.{has_room}
 use Rattle.swc_base_mangle.specs.Mangled.{IsMangled, mangling}
 use Rattle.text_grammar.specs.Shaped.{Shaped}
 use Rattle.text_spelling.specs.Spelled.{Spelled}
-use Rattle.text_kept_namings_laws.specs.Laws.{GivesNewWords}
+use Rattle.text_kept_units_laws.specs.Lower.text_kept_namings_laws.specs.Laws.{GivesNewWords}
 
 -- each short text is a name that is no reserved word
 abbrev pub ShortTextsAreWords : Type 0

@@ -7,10 +7,10 @@ ghost use Rattle.text_pieces.specs.Tokens.{piece_view};
 use crate::lay_out::{Layout, text_of_pieces};
 use std::alloc::{AllocError, Global};
 use swc_tree_node::Node;
+use text_comments::text_walk::pieces;
 use text_follow::follows;
 use text_lexer::Comments;
 use text_pieces::Piece;
-use text_walk::pieces;
 
 /// Why a tree is not written.
 #[derive(Clone, Copy, Debug, PartialEq, Eq)]

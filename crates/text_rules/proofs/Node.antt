@@ -8,7 +8,7 @@ use Rattle.swc_tree_node.specs.declared.slot.Slot.{Slot}
 use Rattle.swc_tree_node.specs.Fits.{Fits}
 use Rattle.swc_tree_grammar.specs.Grammar.{FitsGrammar}
 use Rattle.swc_tree_grammar.specs.Writable.{Writable}
-use Rattle.swc_base_writable.proofs.Law.{agrees}
+use Rattle.text_pinned.specs.Lower.swc_base_writable.proofs.Law.{agrees}
 use Rattle.swc_base_writable_rules.specs.declared.round.Round.{Round}
 use Rattle.swc_base_writable_rules.specs.Judged.{all_meet as all_sound, sounds}
 use Rattle.swc_base_writable_rules.specs.Rounds.{sloppy}

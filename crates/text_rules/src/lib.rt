@@ -13,3 +13,7 @@ mod words;
 mod writing;
 
 pub use keeps::keeps_all_rules;
+
+// Libraries below that crates above name through this one.
+pub use text_derives;
+pub use text_pinned;

@@ -1,3 +1,4 @@
 pub mod Texts
 pub mod Amiss
 pub mod Located
+pub mod Lower

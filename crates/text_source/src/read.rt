@@ -11,7 +11,7 @@ ghost use Rattle.text_follow.specs.Stands.{Stands};
 ghost use Rattle.text_pieces.specs.Frames.{first_span as span_of_first};
 ghost use Rattle.text_pieces.specs.Pieces.{framed_pieces, pieces as tokens_of};
 ghost use Rattle.text_pieces.specs.Tokens.{piece_view};
-ghost use Rattle.text_pinned.specs.Pinned.{IsPinned};
+ghost use Rattle.text_rules.specs.Lower.text_pinned.specs.Pinned.{IsPinned};
 ghost use Rattle.text_reader.specs.declared.fault.TextFault.TheVariants as fault;
 ghost use Rattle.text_source.specs.Texts as spec;
 ghost use Rattle.text_source.specs.Texts.{IsTextOf, IsWhole, SpansAreOf, Tells, most_bytes};

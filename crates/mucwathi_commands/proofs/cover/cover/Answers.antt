@@ -2,7 +2,7 @@ use Rattle.std.proofs.Common.{subst, sym}
 use Rattle.swc_tree_node.specs.declared.slot.Content.TheVariants as content
 use Rattle.swc_tree_node.specs.declared.slot.Slot.TheVariants as slot
 use Rattle.swc_base_covers.specs.Covered.{Tells}
-use Rattle.text_source.specs.Texts.{class_of}
+use Rattle.mucwathi_order.specs.Lower.text_source.specs.Texts.{class_of}
 use Rattle.mucwathi_passes.specs.Passes.{config_of}
 use Rattle.mucwathi_commands.specs.Looks.{TellsCause}
 use Rattle.mucwathi_commands.proofs.Covered.{cause_told}

@@ -1,6 +1,6 @@
 use Rattle.std.proofs.Common.{subst, sym, ◌∙◌}
 use Rattle.swc_tree_node.specs.declared.node.Node.{Node}
-use Rattle.mucwathi_commands.specs.Written.{IsReadAs}
+use Rattle.mucwathi_looks.specs.Lower.mucwathi_commands.specs.Written.{IsReadAs}
 use Rattle.mucwathi_marked.proofs.given.give_text.Goals as goal
 
 pub returns : goal.returns

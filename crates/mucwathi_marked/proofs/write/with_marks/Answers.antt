@@ -1,7 +1,7 @@
 use Rattle.std.proofs.Common.{inl, inr, refl, subst}
 use Rattle.std.proofs.lemmas.Result.{MatchResult-weaker}
 use Rattle.text_source.specs.Texts.{SpansAreOf}
-use Rattle.mucwathi_commands.specs.Written.{IsReadAs}
+use Rattle.mucwathi_looks.specs.Lower.mucwathi_commands.specs.Written.{IsReadAs}
 use Rattle.mucwathi_marked.proofs.Writing.{behind_those, none_marked}
 use Rattle.mucwathi_marked.proofs.write.with_marks.Goals as goal
 

@@ -1,6 +1,6 @@
 use Rattle.std.proofs.Common.{IfErr, IfOk, subst}
 use Rattle.std.proofs.lemmas.Result.{err_from_is_err_and}
-use Rattle.swc_base_rename_program.specs.Renamed.{IsHygienic, IsRenameRefusal, hygiene_renaming}
+use Rattle.swc_base_mangle.specs.Lower.swc_base_rename_program.specs.Renamed.{IsHygienic, IsRenameRefusal, hygiene_renaming}
 use Rattle.mucwathi_passes.proofs.Made.{apart_made}
 use Rattle.mucwathi_passes.proofs.Refusals.{apart_unresolved}
 use Rattle.mucwathi_passes.proofs.passes.set_apart.Goals as goal

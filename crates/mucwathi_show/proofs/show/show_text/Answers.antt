@@ -1,6 +1,6 @@
 use Rattle.std.proofs.Common.{inl, inr, subst, sym}
 use Rattle.std.proofs.lemmas.Result.{MatchResult-weaker}
-use Rattle.mucwathi_commands.specs.Faults.{IsRunFault}
+use Rattle.mucwathi_looks.specs.Lower.mucwathi_commands.specs.Faults.{IsRunFault}
 use Rattle.mucwathi_looks.specs.Changes.{HasChanges}
 use Rattle.mucwathi_show.specs.Unshown.{chain_order}
 use Rattle.mucwathi_show.proofs.show.show_text.Goals as goal

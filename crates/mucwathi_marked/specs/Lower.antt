@@ -1,0 +1,2 @@
+-- Libraries below that crates above name through this one.
+pub use Rattle.mucwathi_looks

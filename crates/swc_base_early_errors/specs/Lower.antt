@@ -1,0 +1,2 @@
+-- Libraries below that crates above name through this one.
+pub use Rattle.swc_base_scope_checks

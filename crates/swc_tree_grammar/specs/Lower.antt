@@ -1,0 +1,3 @@
+-- Libraries below that crates above name through this one.
+pub use Rattle.swc_tree_comments
+pub use Rattle.swc_tree_scoping

@@ -1,0 +1,3 @@
+-- Libraries below that crates above name through this one.
+pub use Rattle.text_kept_namings_laws
+pub use Rattle.text_kept_stripping_laws
