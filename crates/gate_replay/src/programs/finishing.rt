@@ -8,10 +8,10 @@ use std::alloc::Global;
 use std::mem;
 use swc_base_rename::{Config, Renamer};
 use swc_base_resolver::marks_ok;
-use swc_ecma_transforms_base::{
-    NoComments, chain_with_module, chain_with_script, finish_with_module, finish_with_script,
+use swc_ecma_transforms_base_chains::{
+    chain_with_module, chain_with_script, finish_with_module, finish_with_script,
 };
-use swc_tree::{Id, PassError};
+use swc_tree::{Id, NoComments, PassError};
 
 /// What is done by a renamer: names are given anew, contexts cleared then, and parentheses set, or the program is resolved before
 /// that. Scopes beside one another may share texts in the last.
