@@ -3,7 +3,6 @@ pub mod Beginnings
 pub mod Each
 pub mod Fields
 pub mod Heading
-pub mod Least
 pub mod Paired
 pub mod Rows
 pub mod Settled

@@ -13,7 +13,7 @@ use Rattle.swc_tree_grammar.specs.Due.{Places, odd_items, paired_in, sequence_st
 use Rattle.swc_base_fixer_due.specs.declared.row.Ask.TheVariants as ask
 use Rattle.swc_base_fixer_due.specs.declared.row.Row.{Row}
 use Rattle.swc_base_fixer_due.specs.declared.row.Row.TheVariants as row
-use Rattle.swc_base_fixer_due.specs.Test.{asked, left_test, right_test, object_test}
+use Rattle.swc_base_fixer_demands.specs.Test.{asked, left_test, right_test, object_test}
 use Rattle.swc_base_fixer_due.specs.Row.{ask_at, asks, row_for}
 use Rattle.swc_base_fixer_due.specs.Settled.{odd_item, odd_list, settled_by}
 use Rattle.swc_base_fixer_due.specs.Walk.{each_told, is_statement_in}

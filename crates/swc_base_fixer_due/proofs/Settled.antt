@@ -7,10 +7,10 @@ use Rattle.swc_tree_node.specs.declared.node.Node.{Node, Absent, List as Many, T
 use Rattle.swc_tree_node.specs.declared.node.Node.TheOpen.{Node-F}
 use Rattle.swc_tree_grammar.specs.Demands.{meets}
 use Rattle.swc_tree_grammar.specs.Due.{Places, Callee, callee_in, callee_step, call_paired, key_in, pair, pair_if, settled, to_level}
-use Rattle.swc_base_fixer_due.specs.declared.demand.Test.{Test}
-use Rattle.swc_base_fixer_due.specs.declared.demand.Test.TheVariants as test
-use Rattle.swc_base_fixer_due.specs.Test.{asked}
-use Rattle.swc_base_fixer_due.specs.Fields.{called_field}
+use Rattle.swc_base_fixer_demands.specs.declared.demand.Test.{Test}
+use Rattle.swc_base_fixer_demands.specs.declared.demand.Test.TheVariants as test
+use Rattle.swc_base_fixer_demands.specs.Test.{asked}
+use Rattle.swc_base_fixer_demands.specs.Fields.{called_field}
 use Rattle.swc_tree_grammar.proofs.Induction.{by_children}
 use Rattle.swc_tree_grammar.proofs.Wholes.{carried, all_carried}
 use Rattle.swc_base_fixer_due.proofs.Fields.{second_is}

@@ -1,10 +1,6 @@
 pub mod Keyed
 pub mod Record
-pub mod Fields
-pub mod Least
-pub mod Family
 pub mod Naming
-pub mod Test
 pub mod Row
 pub mod Settled
 pub mod Walk

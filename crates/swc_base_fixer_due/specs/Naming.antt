@@ -5,7 +5,7 @@ use Rattle.swc_tree_grammar.specs.Kinds.{has_kind, is_yield}
 use Rattle.swc_tree_grammar.specs.Readers.{assigns_to, is_odd_left, none}
 use Rattle.swc_base_fixer_due.specs.declared.reader.Naming.{Naming}
 use Rattle.swc_base_fixer_due.specs.declared.reader.Naming.TheVariants as naming
-use Rattle.swc_base_fixer_due.specs.Family.{kinds_of}
+use Rattle.swc_base_fixer_demands.specs.Family.{kinds_of}
 
 abbrev pub named : Naming → Node → Bool
 named naming.Nothing = none

@@ -7,16 +7,16 @@ use Rattle.swc_tree_node.specs.declared.node.Node.{Node}
 use Rattle.swc_tree_node.specs.declared.node.Node.TheOpen.{Node-F}
 use Rattle.swc_tree_grammar.specs.Shapes.{Seq, Assign, Cond, Bin, Unary, Await, Update, Yield, Member, TaggedTpl, Call, New, OptCall, Argument, Spread, KeyValue, Method, ClassProp, PrivateProp, ClassMethod, Constructor, Getter, Setter, Arrow, Class, Declarator, AssignPat, AssignPatProp, KeyValuePat, ExportDefault, ForOf}
 use Rattle.swc_tree_grammar.specs.Levels.{word_of, is_absent}
-use Rattle.swc_base_fixer_due.specs.declared.demand.Test.{Test}
-use Rattle.swc_base_fixer_due.specs.declared.demand.Test.TheVariants as test
-use Rattle.swc_base_fixer_due.specs.declared.family.Family.{Family}
-use Rattle.swc_base_fixer_due.specs.declared.family.Family.TheVariants as family
+use Rattle.swc_base_fixer_demands.specs.declared.demand.Test.{Test}
+use Rattle.swc_base_fixer_demands.specs.declared.demand.Test.TheVariants as test
+use Rattle.swc_base_fixer_demands.specs.declared.family.Family.{Family}
+use Rattle.swc_base_fixer_demands.specs.declared.family.Family.TheVariants as family
 use Rattle.swc_base_fixer_due.specs.declared.reader.Naming.TheVariants as naming
 use Rattle.swc_base_fixer_due.specs.declared.row.Ask.{Ask}
 use Rattle.swc_base_fixer_due.specs.declared.row.Ask.TheVariants as ask
 use Rattle.swc_base_fixer_due.specs.declared.row.Row.{Row}
 use Rattle.swc_base_fixer_due.specs.declared.row.Row.TheVariants as row
-use Rattle.swc_base_fixer_due.specs.Test.{left_test, right_test, object_test}
+use Rattle.swc_base_fixer_demands.specs.Test.{left_test, right_test, object_test, behind_operator}
 
 -- what is asked in a field
 abbrev pub ask_at : Row → ℕ → Ask
@@ -70,8 +70,8 @@ row_for in_chain (Seq span exprs) = row.One 1 (ask.Each 2)
 row_for in_chain (Assign span op left right) = row.One 3 (tight 2)
 row_for in_chain (Cond span test cons alt) = row.Three 1 (tight 4) 2 (tight 2) 3 (tight 2)
 row_for in_chain (Bin span op left right) = sides (word_of op)
-row_for in_chain (Unary span op arg) = row.One 2 (tight 15)
-row_for in_chain (Await span arg) = row.One 1 (tight 15)
+row_for in_chain (Unary span op arg) = row.One 2 (single behind_operator)
+row_for in_chain (Await span arg) = row.One 1 (single behind_operator)
 row_for in_chain (Update span op prefix arg) = row.One 3 (tight 17)
 row_for in_chain (Yield span arg delegate) = row.One 1 (tight 2)
 row_for in_chain (Member span obj prop) = row.One 1 (named (object_test in_chain) family.OddObject)

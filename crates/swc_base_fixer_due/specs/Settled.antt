@@ -8,7 +8,7 @@ use Rattle.swc_tree_grammar.specs.Shapes.{items_of}
 use Rattle.swc_base_fixer_due.specs.declared.row.Ask.{Ask}
 use Rattle.swc_base_fixer_due.specs.declared.row.Ask.TheVariants as ask
 use Rattle.swc_base_fixer_due.specs.Naming.{named}
-use Rattle.swc_base_fixer_due.specs.Test.{asked}
+use Rattle.swc_base_fixer_demands.specs.Test.{asked}
 
 abbrev pub settled_by : Places → Node → Ask → Node
 settled_by place e ask.Nothing = e

@@ -13,11 +13,11 @@ ghost use Rattle.swc_base_fixer_due.specs.Walk.{in_heads};
 ghost use Rattle.swc_base_fixer_due.specs.declared.heads.Handing.TheVariants.{ToAll};
 ghost use Rattle.swc_base_fixer_due.specs.HeadLaws.{heads_leave, heads_list, heads_tree};
 
-use crate::level::{is_in, word_of};
 use crate::pair::pair;
 use crate::pairing::{Pairing, pair_tree};
 use crate::record::Record;
 use std::alloc::{AllocError, Global};
+use swc_base_fixer_demands::{is_in, word_of};
 use swc_tree_items::Items;
 use swc_tree_node::fields::{
     arrow_expr, assign_expr, assign_pat, await_expr, bin_expr, call_expr, cond_expr, for_in_stmt,

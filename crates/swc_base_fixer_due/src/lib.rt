@@ -2,20 +2,17 @@
 //!
 //! In three steps, each of which goes through the tree once, in place, as `pairing` says:
 //!
-//! - `levels` settles what each place asks of the expression in it. `row` says what that is, by `demand`, `reader` and
-//!   `family`; `level` says how tightly an expression binds, `settle` sets the pairs.
+//! - `levels` settles what each place asks of the expression in it. `row` says what that is, by `reader` and by what
+//!   `swc_base_fixer_demands` has of places and levels; `settle` sets the pairs.
 //! - `heads` looks for a bare `in` and a bare `async` in heads of `for`.
 //! - `starts` looks at what statements, default exports and bodies of arrows begin with, which `start` says.
 //!
 //! `record` says where a pair stands, `keyed` how the contents of pairs are hashed there, `pair` makes one.
 #![tactic(auto)]
 
-mod demand;
 mod due;
-mod family;
 mod heads;
 mod keyed;
-mod level;
 mod levels;
 mod pair;
 mod pairing;

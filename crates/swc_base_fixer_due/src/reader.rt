@@ -2,11 +2,10 @@
 ghost use Rattle.std.specs.Prelude.{◌≡◌};
 ghost use Rattle.swc_tree_grammar.specs.Readers.{assigns_to as is_assigning_to, is_equality as is_equality_word, is_instance as is_instance_word, is_odd_item as is_odd_item_in, is_odd_left as is_odd_left_in, odd_unary as odd_unary_in, unary_word_in};
 ghost use Rattle.swc_tree_node.specs.declared.node.Node.{out-Node};
-ghost use Rattle.swc_base_fixer_due.specs.Family.{kinds_of};
+ghost use Rattle.swc_base_fixer_demands.specs.Family.{kinds_of};
 ghost use Rattle.swc_base_fixer_due.specs.Naming.{named};
 
-use crate::family::{Family, is_of};
-use crate::level::word_of;
+use swc_base_fixer_demands::{Family, is_of, word_of};
 use swc_tree_node::fields::{assign_expr, unary_expr};
 use swc_tree_node::{Kind, Node, Word};
 

@@ -3,10 +3,10 @@ ghost use Rattle.std.specs.Prelude.{◌≡◌};
 ghost use Rattle.swc_tree_node.specs.declared.node.Node.TheOpen.{Node-F};
 ghost use Rattle.swc_base_fixer_due.specs.Row.{ask_at, asks as asks_of, key_asks as key_asks_of, part_asks as part_asks_of, tight as tight_of, named as named_of, key_row as key_row_of, part_row as part_row_of, row_for, sides as sides_of, single as single_of};
 
-use crate::demand::{Test, left_side, object, right_side};
-use crate::family::Family;
-use crate::level::{is_absent, word_of};
 use crate::reader::Naming;
+use swc_base_fixer_demands::{
+    Family, Test, behind_operator, is_absent, left_side, object, right_side, word_of,
+};
 use swc_tree_node::fields::{
     arrow_expr, assign_expr, assign_pat, assign_pat_prop, await_expr, bin_expr, call_expr, class,
     class_method, class_prop, cond_expr, export_default_expr, expr_or_spread, for_of_stmt,
@@ -168,8 +168,12 @@ pub fn row_of(in_chain: bool, kind: Kind, fields: &[Node]) -> Row
             )
         }
         Kind::BinExpr if fields.len() == 4 => sides(word_of(&fields[bin_expr::OP])),
-        Kind::UnaryExpr if fields.len() == 3 => Row::One(unary_expr::ARG, tight(15)),
-        Kind::AwaitExpr if fields.len() == 2 => Row::One(await_expr::ARG, tight(15)),
+        Kind::UnaryExpr if fields.len() == 3 => {
+            Row::One(unary_expr::ARG, single(behind_operator()))
+        }
+        Kind::AwaitExpr if fields.len() == 2 => {
+            Row::One(await_expr::ARG, single(behind_operator()))
+        }
         Kind::UpdateExpr if fields.len() == 4 => Row::One(update_expr::ARG, tight(17)),
         Kind::YieldExpr if fields.len() == 3 => Row::One(yield_expr::ARG, tight(2)),
         Kind::MemberExpr if fields.len() == 3 => {

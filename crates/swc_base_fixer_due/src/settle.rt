@@ -10,16 +10,14 @@ ghost use Rattle.swc_tree_grammar.specs.Readers.{none};
 ghost use Rattle.swc_base_fixer_due.specs.Naming.{named};
 ghost use Rattle.swc_base_fixer_due.specs.Record.{place_in};
 ghost use Rattle.swc_base_fixer_due.specs.Settled.{settled_by};
-ghost use Rattle.swc_base_fixer_due.specs.Test.{asked};
+ghost use Rattle.swc_base_fixer_demands.specs.Test.{asked};
 
-use crate::demand::{Test, may_be_new, meets};
-use crate::family::{Family, is_of};
-use crate::level::{at_least, called_field};
 use crate::pair::{pair, pair_if};
 use crate::reader::{Naming, is_named};
 use crate::record::Record;
 use crate::row::Ask;
 use std::alloc::{AllocError, Global};
+use swc_base_fixer_demands::{Family, Test, at_least, called_field, is_of, may_be_new, meets};
 use swc_tree_items::Items;
 use swc_tree_node::fields::computed_prop_name;
 use swc_tree_node::{Kind, Node};

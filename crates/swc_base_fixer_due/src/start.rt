@@ -6,8 +6,8 @@ ghost use Rattle.swc_tree_grammar.specs.Due.{Places};
 ghost use Rattle.swc_tree_node.specs.declared.node.Node.{out-Node};
 ghost use Rattle.swc_base_fixer_due.specs.Begin.{begins, own_start as own_start_of, start_field as start_field_of, has_let_bracket as has_let_bracket_in, leading_field as leading_field_of, leads as leads_of};
 
-use crate::family::{Family, is_of};
 use crate::heads::holds;
+use swc_base_fixer_demands::{Family, is_of};
 use swc_tree_node::fields::{
     assign_expr, bin_expr, call_expr, cond_expr, fn_expr, function, member_expr, opt_chain_expr,
     seq_expr, update_expr,

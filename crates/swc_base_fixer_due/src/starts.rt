@@ -8,12 +8,12 @@ ghost use Rattle.swc_base_fixer_due.specs.Begin.{begins, beginning_for, first_pa
 ghost use Rattle.swc_base_fixer_due.specs.Record.{place_in};
 ghost use Rattle.swc_base_fixer_due.specs.StartLaws.{starts_leave, starts_list, starts_tree};
 
-use crate::family::{Family, is_of};
 use crate::pair::pair;
 use crate::pairing::{Pairing, pair_tree};
 use crate::record::Record;
 use crate::start::{Start, leading_field, start_of};
 use std::alloc::{AllocError, Global};
+use swc_base_fixer_demands::{Family, is_of};
 use swc_tree_items::Items;
 use swc_tree_node::fields::{arrow_expr, export_default_expr, expr_stmt};
 use swc_tree_node::{Kind, Node};

@@ -3,8 +3,8 @@ use Rattle.std.specs.Prelude.{Bool}
 use Rattle.swc_tree_node.specs.declared.kind.Kind.{Kind}
 use Rattle.swc_tree_grammar.specs.Kinds.{is_arrow, is_await, is_block, is_opt_chain, is_class, is_destructuring, is_function, is_literal, is_object, is_object_pattern, is_yield}
 use Rattle.swc_tree_grammar.specs.Readers.{is_odd_callee, is_odd_object}
-use Rattle.swc_base_fixer_due.specs.declared.family.Family.{Family}
-use Rattle.swc_base_fixer_due.specs.declared.family.Family.TheVariants as family
+use Rattle.swc_base_fixer_demands.specs.declared.family.Family.{Family}
+use Rattle.swc_base_fixer_demands.specs.declared.family.Family.TheVariants as family
 
 abbrev pub kinds_of : Family → Kind → Bool
 kinds_of family.Arrow = is_arrow

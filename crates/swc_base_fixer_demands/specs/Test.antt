@@ -5,8 +5,8 @@ use Rattle.swc_tree_node.specs.declared.kind.Word.TheVariants as word
 use Rattle.swc_tree_grammar.specs.Levels.{level_of_word}
 use Rattle.swc_tree_grammar.specs.Demands.{Demand}
 use Rattle.swc_tree_grammar.specs.Demands.Demand.{AtLeast, Body, Operand, Link, OrSide, NullishSide}
-use Rattle.swc_base_fixer_due.specs.declared.demand.Test.{Test}
-use Rattle.swc_base_fixer_due.specs.declared.demand.Test.TheVariants as test
+use Rattle.swc_base_fixer_demands.specs.declared.demand.Test.{Test}
+use Rattle.swc_base_fixer_demands.specs.declared.demand.Test.TheVariants as test
 
 abbrev pub asked : Test → Demand
 asked (test.AtLeast n) = AtLeast n
@@ -15,6 +15,10 @@ asked test.Operand = Operand
 asked test.Link = Link
 asked test.OrSide = OrSide
 asked test.NullishSide = NullishSide
+
+-- what stands behind an operator that stands before its operand, and behind `await`, is asked
+abbrev pub behind_operator : Test
+behind_operator = test.AtLeast 15
 
 -- what the sides of an operator and the object of a member are asked
 abbrev pub left_test : Option Word → Test

@@ -6,7 +6,7 @@ use Rattle.swc_tree_node.specs.declared.node.Node.TheOpen.{Node-F}
 use Rattle.swc_tree_grammar.specs.Shapes.{Member, TaggedTpl}
 use Rattle.swc_tree_grammar.specs.Levels.{is_absent, level_in, is_called}
 use Rattle.swc_tree_grammar.specs.Demands.{at_least}
-use Rattle.swc_base_fixer_due.specs.Least.{least, least_in, uncalled, uncalled_in}
+use Rattle.swc_base_fixer_demands.specs.Least.{least, least_in, uncalled, uncalled_in}
 
 one_more : (n : ℕ) → nat_le n 18 ≡ (nat_le n 17 || nat_eq n 18)
 one_more n = grind arith

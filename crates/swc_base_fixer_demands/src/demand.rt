@@ -2,7 +2,7 @@
 ghost use Rattle.std.specs.Prelude.{◌≡◌};
 ghost use Rattle.swc_tree_grammar.specs.Demands.{is_bare_new as is_bare_new_in, is_nullish as is_nullish_in, meets as is_met};
 ghost use Rattle.swc_tree_grammar.specs.Demands.Demand.{NewCallee};
-ghost use Rattle.swc_base_fixer_due.specs.Test.{asked, left_test, object_test, right_test};
+ghost use Rattle.swc_base_fixer_demands.specs.Test.{asked, behind_operator as behind_operator_of, left_test, object_test, right_test};
 
 use crate::family::{Family, is_of};
 use crate::level::{at_least, is_absent, level_of_word, word_of};
@@ -24,6 +24,13 @@ pub enum Test {
     OrSide,
     /// Of a side of `??`.
     NullishSide,
+}
+
+/// What is asked behind an operator that stands before its operand, and behind `await`.
+pub fn behind_operator() -> Test
+    ensures { result ≡ behind_operator_of }
+{
+    Test::AtLeast(15)
 }
 
 /// What is asked on the left of an operator.

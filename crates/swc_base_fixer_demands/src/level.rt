@@ -2,8 +2,8 @@
 ghost use Rattle.std.specs.Prelude.{◌≡◌, ◌≤◌, ◌<◌, length, IfSome};
 ghost use Rattle.swc_tree_grammar.specs.Levels.{operator_level as operator_level_of, level_of_word as level_of_word_of, is_in as is_in_word, kind_level as kind_level_of, word_of as word_in, is_absent as is_nothing, is_called as is_called_in};
 ghost use Rattle.swc_tree_grammar.specs.Demands.{at_least as is_at_least};
-ghost use Rattle.swc_base_fixer_due.specs.Fields.{called_field as called_field_of};
-ghost use Rattle.swc_base_fixer_due.specs.Least.{least, uncalled};
+ghost use Rattle.swc_base_fixer_demands.specs.Fields.{called_field as called_field_of};
+ghost use Rattle.swc_base_fixer_demands.specs.Least.{least, uncalled};
 
 use swc_tree_node::fields::{bin_expr, member_expr, new_expr};
 use swc_tree_node::{Kind, Node, Word};

@@ -1,7 +1,7 @@
 //! Which kinds a test takes.
 ghost use Rattle.std.specs.Prelude.{◌≡◌};
 ghost use Rattle.swc_tree_grammar.specs.Kinds.{has_kind};
-ghost use Rattle.swc_base_fixer_due.specs.Family.{kinds_of};
+ghost use Rattle.swc_base_fixer_demands.specs.Family.{kinds_of};
 
 use swc_tree_node::{Kind, Node};
 

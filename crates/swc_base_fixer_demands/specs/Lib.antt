@@ -1,0 +1,4 @@
+pub mod Family
+pub mod Fields
+pub mod Least
+pub mod Test
