@@ -1,5 +1,5 @@
 //! The passes of swc's `swc_ecma_transforms_base` under its module paths, and the calls that run them one after another
-//! (`swc_ecma_transforms_base_chains`).
+//! (`swc_ecma_transforms_base_chains`, `swc_ecma_transforms_base_chains_with`).
 #![tactic(auto)]
 
 pub mod assumptions;
@@ -16,7 +16,9 @@ pub mod resolver;
 pub mod scope;
 
 pub use swc_ecma_transforms_base_chains::{
-    chain_module, chain_script, chain_with_module, chain_with_script, finish_module, finish_script,
-    finish_with_module, finish_with_script,
+    chain_module, chain_script, finish_module, finish_script,
+};
+pub use swc_ecma_transforms_base_chains_with::{
+    chain_with_module, chain_with_script, finish_with_module, finish_with_script,
 };
 pub use swc_tree::{Comments, EsVersion, Globals, Mark, Module, NoComments, PassError, Script};

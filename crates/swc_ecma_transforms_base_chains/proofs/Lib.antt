@@ -1,3 +1,3 @@
-mod Chaining
-mod Finishing
+pub mod Chaining
+pub mod Finishing
 mod WritableTypes

@@ -13,7 +13,11 @@ use swc_base_fixer_program::fix_parens_with;
 use swc_tree::{Comments, Module, PassError, Script, empty_module, empty_script};
 use swc_tree_handle::Trees;
 
-// Sets the parentheses of a program anew and moves comments along.
+/// Sets the parentheses of a module anew and moves comments along, as the fixer does where no types stand.
+///
+/// # Errors
+///
+/// `NotAssignable` where a parenthesised target takes no value, `NoMemory`. The program is then empty.
 #[tactic(auto, using(swc_base_fixer::proofs::Open::items_open, swc_base_fixer::proofs::Fixed::module_answer, swc_base_fixer::proofs::Programs::module_bare, swc_base_fixer::proofs::Fixed::module_moves_for))]
 pub fn fix_module<C: Comments>(
     alloc: Global,
@@ -43,7 +47,11 @@ pub fn fix_module<C: Comments>(
     Ok(())
 }
 
-// The same for a program of the goal Script.
+/// The same for a program of the goal Script.
+///
+/// # Errors
+///
+/// Those of `fix_module`.
 #[tactic(auto, using(swc_base_fixer::proofs::Open::statements_open, swc_base_fixer::proofs::Fixed::script_answer, swc_base_fixer::proofs::Programs::script_bare, swc_base_fixer::proofs::Fixed::script_moves_for))]
 pub fn fix_script<C: Comments>(
     alloc: Global,

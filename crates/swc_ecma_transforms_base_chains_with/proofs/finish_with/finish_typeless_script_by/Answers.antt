@@ -4,7 +4,7 @@ use Rattle.swc_tree_sites_scripts.specs.Laws.{script_place}
 use Rattle.swc_base_rename.specs.Renamers.{renaming_in}
 use Rattle.swc_base_rename_hygiene_laws.specs.Renamers.{IsLawful, IsRenamedAndCleared}
 use Rattle.swc_ecma_transforms_base_chains.proofs.Finishing.{formed_by, meets_none_by, partly_by_fixer, promised_by, refused_by_fixer, refused_by_renamer, renamer_blames_no_target, script_top_apart, settled_as, unmoved_by_fixer}
-use Rattle.swc_ecma_transforms_base_chains.proofs.finish_with.finish_typeless_script_by.Goals as goal
+use Rattle.swc_ecma_transforms_base_chains_with.proofs.finish_with.finish_typeless_script_by.Goals as goal
 
 -- src/finish_with.rt
 pub returns-in_err-fix_script-clause-cause : goal.returns-in_err-fix_script-clause-cause

@@ -13,10 +13,10 @@ ghost use Rattle.swc_ecma_transforms_base_chains.specs.Lent.{Became, MovesFor, M
 ghost use Rattle.swc_ecma_transforms_base_laws.specs.Headline.{IsOfMemoryOrCounters, KeepsItsForm, KeepsItsPromises};
 ghost use Rattle.swc_ecma_transforms_base_laws.specs.Renamers.{Suits};
 
-use crate::fixed::{fix_module, fix_script};
 use std::alloc::Global;
 use std::mem;
 use swc_base_rename::{Config, Renamer, settle_module_with, settle_script_with};
+use swc_ecma_transforms_base_chains::{fix_module, fix_script};
 use swc_ecma_transforms_base_laws::{
     finishing_renamed_meets_no_target, lawful_renamers_keep_forms, lawful_renamers_keep_promises,
 };

@@ -1,4 +1,4 @@
-use Rattle.swc_ecma_transforms_base_chains.proofs.chain_with.chain_with_module.Goals as goal
+use Rattle.swc_ecma_transforms_base_chains_with.proofs.chain_with.chain_with_module.Goals as goal
 
 -- src/chain_with.rt
 pub returns-in-Some-clause-moved : goal.returns-in-Some-clause-moved

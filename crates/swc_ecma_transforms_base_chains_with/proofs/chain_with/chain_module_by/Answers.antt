@@ -6,7 +6,7 @@ use Rattle.swc_base_rename_ids_laws.proofs.Programs.{module_place}
 use Rattle.swc_base_rename.specs.Renamers.{renaming_in}
 use Rattle.swc_ecma_transforms_base_chains.proofs.Chaining.{chained, fresh_first, marked, moved_once, moved_partly, no_target_first, no_target_later_by, refused_first, refused_later, source_kept_by, typeless_yet}
 use Rattle.swc_ecma_transforms_base_chains.proofs.Finishing.{module_plain, where_refused}
-use Rattle.swc_ecma_transforms_base_chains.proofs.chain_with.chain_module_by.Goals as goal
+use Rattle.swc_ecma_transforms_base_chains_with.proofs.chain_with.chain_module_by.Goals as goal
 
 -- src/chain_with.rt
 pub finish_typeless_module_by-requires : goal.finish_typeless_module_by-requires

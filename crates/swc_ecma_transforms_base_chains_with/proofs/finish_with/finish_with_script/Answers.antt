@@ -1,4 +1,4 @@
-use Rattle.swc_ecma_transforms_base_chains.proofs.finish_with.finish_with_script.Goals as goal
+use Rattle.swc_ecma_transforms_base_chains_with.proofs.finish_with.finish_with_script.Goals as goal
 
 -- src/finish_with.rt
 pub returns-in-Some-clause-moved : goal.returns-in-Some-clause-moved
