@@ -1,22 +1,22 @@
 #!/usr/bin/env python3
-"""crate_costs.py [--jobs N] [--apart] [CRATE..]: what each crate costs the gate, as a table in Markdown, the dearest first.
+"""crate_costs.py [--jobs N] [--keep FOLDER] [--proofs] [CRATE..]: what each crate costs the gate, as docs/gate_costs.txt has it.
 crate_costs.py --log LOG: what each check of a gate's log loaded, and from which libraries.
 
-It proves each crate of crates.txt, or those named and the ones that they use, by `rt ci NAME`, those below first and N at a time (4), and
-takes the processor time of each such run as a whole, in a folder with these crates alone: the crate's proofs and its must-fail edits,
-and a second or more for a look at what is kept of the crates below. A crate that an earlier run on this machine has passed costs no more
-than that look, so the table tells what crates cost from nothing on a machine where nothing is kept, or after a change below all of them.
-What passed is kept for the gate: on a new machine it may stand in the place of a first `.ci/run`, whose log tells no seconds.
+It proves each crate of crates.txt, or those named and the ones that they use, lowest first and N at a time (4), in a folder of its own
+with those that it stands on, and takes the processor time of each run of `rt` as a whole: `rt lib` of a library, `rt check` and `rt run`
+by both compilers of a program, on its rows; then `rt must-fail` of a crate that has edits. The first line of what it prints has all, then
+each crate has a line, the dearest first, with the seconds of its edits behind `+`. With --proofs no edit is tried and no program runs.
 
-With --apart each crate is proved in a copy without edits first, and then as it is, which tries its edits alone: the table tells the two apart.
-
-The programs that no run keeps are left out; `time .ci/run` tells what a run costs in which nothing changed.
+FOLDER keeps what was built and what it took, so that a run that was ended goes on there; what changed since is proved anew, and all above it. Without --keep it is
+a folder that goes with the run. `rt ci` keeps nothing of this, nor takes it over: it is no gate.
 
 With --log nothing is proved. A check loads the statements of all libraries that its types stand on, so many modules by the log; a crate
 with edits is checked once more for them, and each edit loads as much again. So a crate's modules count twice and once for each edit."""
 import argparse
 import collections
 import glob
+import hashlib
+import json
 import os
 import re
 import shutil
@@ -25,7 +25,8 @@ import sys
 import tempfile
 
 ROOT = os.path.dirname(os.path.dirname(os.path.abspath(__file__)))
-NEVER_KEPT = {'gate_trees'}
+PARTS = ('src', 'specs', 'proofs', 'must-fail')
+GROUPS = ('text_', 'mucwathi', ('gate_', 'example_', 'bench_'))
 
 
 def crates():
@@ -47,14 +48,32 @@ def below(uses, wanted):
     return found
 
 
+def folder_of(crate):
+    return os.path.join(ROOT, 'crates', crate)
+
+
 def edits_of(crate):
-    return len(glob.glob(os.path.join(ROOT, 'crates', crate, 'must-fail', '*.edit')))
+    return len(glob.glob(os.path.join(folder_of(crate), 'must-fail', '*.edit')))
 
 
-def chains(uses):
+def is_program(crate):
+    return os.path.exists(os.path.join(folder_of(crate), 'src', 'main.rt'))
+
+
+def text_of(*path):
+    try:
+        with open(os.path.join(*path), 'rb') as text:
+            return text.read()
+    except FileNotFoundError:
+        return b''
+
+
+def heights_of(uses):
     """how many crates stand above a crate in the longest chain"""
-    above = {crate: [other for other in uses if crate in uses[other]] for crate in uses}
-    heights = {}
+    above, heights = collections.defaultdict(list), {}
+    for crate, used in uses.items():
+        for each in used:
+            above[each].append(crate)
 
     def height(crate):
         if crate not in heights:
@@ -63,48 +82,129 @@ def chains(uses):
     return {crate: height(crate) for crate in uses}
 
 
-def part(uses, crate, with_edits):
-    """a new folder with a crate and those below it alone, since a run looks at all that stands in the repository; with its edits, if that is asked"""
-    place = tempfile.mkdtemp()
-    found = below(uses, [crate])
-    for each in found:
-        left_out = ('out',) if with_edits and each == crate else ('out', 'must-fail')
-        shutil.copytree(os.path.join(ROOT, 'crates', each), os.path.join(place, 'crates', each), ignore=shutil.ignore_patterns(*left_out))
-    shutil.copy(os.path.join(ROOT, 'HANDLES'), place)
-    with open(os.path.join(ROOT, 'crates.txt'), encoding='utf-8') as text, open(os.path.join(place, 'crates.txt'), 'w', encoding='utf-8') as kept:
-        kept.writelines(line for line in text if line.split(':')[0] in found)
-    return place
+def sum_of(crate):
+    """a sum of a crate's own files"""
+    found = hashlib.sha256()
+    for part in PARTS:
+        for at, folders, files in os.walk(os.path.join(folder_of(crate), part)):
+            folders.sort()
+            for name in sorted(files):
+                found.update(os.path.relpath(os.path.join(at, name), ROOT).encode() + text_of(at, name))
+    return found.hexdigest()
 
 
-def prove_all(uses, wanted, jobs, apart):
-    """yields each crate with the processor seconds of its runs, and whether all passed; edits are tried where no proof is ready"""
-    heights, left, passed, edited, running = chains(uses), set(wanted), set(), [], {}
+class Costs:
+    """What crates cost, and the folder that keeps what was built."""
 
-    def start(crate, spent):
-        place = part(uses, crate, not apart or spent)
-        run = subprocess.Popen(['rt', 'ci', crate], cwd=place, stdout=subprocess.DEVNULL, stderr=subprocess.DEVNULL)
-        # kept, since a child whose object is gone is waited for by whoever starts the next one
-        running[run.pid] = run, crate, spent, place
-    while left or edited or running:
-        ready = sorted((crate for crate in left if all(used in passed for used in uses[crate])), key=lambda crate: (-heights[crate], crate))
-        for crate in ready[:jobs - len(running)]:
-            left.remove(crate)
-            start(crate, [])
-        while edited and len(running) < jobs:
-            start(*edited.pop(0))
-        if not running:
-            return
-        pid, status, usage = os.wait4(-1, 0)
-        run, crate, spent, place = running.pop(pid)
-        run.returncode = status
+    def __init__(self, keep, only_proofs):
+        self.uses, self.keep, self.only_proofs = crates(), keep, only_proofs
+        self.below = {crate: below(self.uses, self.uses[crate]) for crate in self.uses}
+        sums = {crate: sum_of(crate) for crate in self.uses}
+        self.keys = {crate: hashlib.sha256(repr((self.uses[crate], sums[crate], sorted(sums[each] for each in self.below[crate]))).encode()).hexdigest()
+                     for crate in self.uses}
+        os.makedirs(os.path.join(keep, 'crates'), exist_ok=True)
+        self.spent = json.loads(text_of(keep, 'spent.json') or b'{}')
+
+    def steps(self, crate):
+        """the words of the runs that a crate takes, in turn, under what they are counted as"""
+        if not is_program(crate):
+            yield 'proof', ['rt', 'lib', '--jobs', '1']
+        else:
+            yield 'proof', ['rt', 'check', '--jobs', '1']
+            words = text_of(folder_of(crate), 'args').decode().split('\n')[:-1]
+            for backend in () if self.only_proofs else ('llvm', 'rattle'):
+                yield backend, ['rt', 'run', '--jobs', '1', '--backend', backend, '--', *words]
+        if edits_of(crate) and not self.only_proofs:
+            yield 'edits', ['rt', 'must-fail', crate]
+
+    def left_of(self, crate):
+        """the steps of a crate that were not done on its files and those below as they stand"""
+        kept = self.spent.get(crate, {})
+        done = kept.get('seconds', {}) if kept.get('key') == self.keys[crate] else {}
+        return [step for step in self.steps(crate) if step[0] not in done]
+
+    def is_proved(self, crate):
+        return self.left_of(crate) == [] or self.left_of(crate)[0][0] != 'proof'
+
+    def place(self, crate):
+        """a new folder with a crate and, built, those below it alone, since a run looks at all that stands in the repository"""
+        place = tempfile.mkdtemp(dir=self.keep)
+        subprocess.run(['git', 'init', '-q', place], check=True)
+        shutil.copy(os.path.join(ROOT, 'HANDLES'), place)
+        with open(os.path.join(ROOT, 'crates.txt'), encoding='utf-8') as text, open(os.path.join(place, 'crates.txt'), 'w', encoding='utf-8') as listed:
+            listed.writelines(line for line in text if line.split(':')[0] in {crate, *self.below[crate]})
+        for each in self.below[crate]:
+            shutil.copytree(os.path.join(self.keep, 'crates', each), os.path.join(place, 'crates', each), copy_function=os.link)
+        own = os.path.join(place, 'crates', crate)
+        shutil.copytree(folder_of(crate), own, ignore=shutil.ignore_patterns('out'))
+        if os.path.isdir(os.path.join(self.keep, 'crates', crate, 'out')):
+            shutil.copytree(os.path.join(self.keep, 'crates', crate, 'out'), os.path.join(own, 'out'))
+        return place
+
+    def start(self, crate, step):
+        """begins a step of a crate"""
+        place = self.place(crate)
+        cwd = place if step[0] == 'edits' else os.path.join(place, 'crates', crate)
+        given = open(os.path.join(cwd, 'stdin'), 'rb') if os.path.exists(os.path.join(cwd, 'stdin')) else subprocess.DEVNULL
+        with open(os.path.join(self.keep, f'{crate}.{step[0]}.log'), 'wb') as log:
+            return subprocess.Popen(step[1], cwd=cwd, stdin=given, stdout=log, stderr=subprocess.STDOUT), place
+
+    def end(self, crate, step, place, status, usage):
+        """notes what a step took, and keeps what it built; whether it passed"""
+        wanted = int(text_of(folder_of(crate), 'status') or b'0') if step[0] in ('llvm', 'rattle') else 0
+        passed = os.waitstatus_to_exitcode(status) == wanted
+        if step[0] != 'edits':
+            shutil.rmtree(os.path.join(self.keep, 'crates', crate), ignore_errors=True)
+            shutil.move(os.path.join(place, 'crates', crate), os.path.join(self.keep, 'crates', crate))
         shutil.rmtree(place)
-        spent = spent + [usage.ru_utime + usage.ru_stime]
-        if status == 0:
-            passed.add(crate)
-            if apart and len(spent) == 1 and edits_of(crate):
-                edited.append((crate, spent))
-                continue
-        yield crate, spent, status == 0
+        if passed:
+            kept = self.spent.get(crate, {})
+            if kept.get('key') != self.keys[crate]:
+                kept = self.spent[crate] = {'key': self.keys[crate], 'seconds': {}}
+            kept['seconds'][step[0]] = usage.ru_utime + usage.ru_stime
+            with open(os.path.join(self.keep, 'spent.json'), 'w', encoding='utf-8') as text:
+                json.dump(self.spent, text)
+        return passed
+
+    def run(self, wanted, jobs):
+        """does the steps of crates that are left, lowest first; the crates of which one failed or could not begin"""
+        heights, running, failed = heights_of(self.uses), {}, set()
+        left = sorted((crate for crate in wanted if self.left_of(crate)), key=lambda crate: (-heights[crate], crate))
+        while left or running:
+            busy = {crate for crate, _, _ in running.values()}
+            ready = [crate for crate in left if crate not in busy and all(map(self.is_proved, self.below[crate]))]
+            # proofs first, since others wait for them
+            ready.sort(key=lambda crate: self.is_proved(crate))
+            for crate in ready[:jobs - len(running)]:
+                step = self.left_of(crate)[0]
+                run, place = self.start(crate, step)
+                running[run.pid] = crate, step, (run, place)
+            if not running:
+                break
+            pid, status, usage = os.wait4(-1, 0)
+            crate, step, (run, place) = running.pop(pid)
+            # kept, since a child whose object is gone is waited for by whoever starts the next one
+            run.returncode = status
+            passed = self.end(crate, step, place, status, usage)
+            print(f'{crate} {step[0]}: {usage.ru_utime + usage.ru_stime:.0f} s{"" if passed else ", FAILED"}', file=sys.stderr, flush=True)
+            if not passed:
+                failed.add(crate)
+            if not passed or not self.left_of(crate):
+                left.remove(crate)
+        return failed | set(left)
+
+    def print(self, wanted):
+        """prints what crates took, the dearest first"""
+        rows = []
+        for crate in wanted:
+            seconds = self.spent.get(crate, {}).get('seconds', {})
+            rows.append((sum(spent for what, spent in seconds.items() if what != 'edits'), seconds.get('edits', 0), crate))
+        told = [(group if isinstance(group, tuple) else (group,)) for group in GROUPS]
+        for name, those in [('all', rows), *((', '.join(f'{begun}*' for begun in group), [row for row in rows if row[2].startswith(group)]) for group in told)]:
+            print(f'{name}: {sum(row[0] for row in those) / 60:.0f} minutes, edits {sum(row[1] for row in those) / 60:.0f}')
+        print()
+        for proofs, edits, crate in sorted(rows, key=lambda row: -row[0] - row[1]):
+            print(f'{crate} {proofs:.0f}' + (f' + {edits:.0f}' if edits else ''))
 
 
 def loaded(log):
@@ -137,33 +237,25 @@ def print_loads(log):
     print(f'\n{total:,} modules in {len(rows)} crates: ' + ', '.join(f'{name} {100 * count / total:.0f} %' for name, count in libraries.most_common(12)))
 
 
-def print_costs(rows, apart):
-    """prints what crates took, the dearest first"""
-    print('| crate | edits | seconds |' + (' of them for edits |' if apart else '') + '\n|---|---|---|' + ('---|' if apart else ''))
-    for seconds, crate, spent in sorted(rows, reverse=True):
-        print(f'| `{crate}` | {edits_of(crate)} | {seconds:.0f} |' + (f' {sum(spent[1:]):.0f} |' if apart else ''))
-    print(f'\n{sum(row[0] for row in rows) / 60:.0f} processor minutes in all.')
-
-
 def main():
     parser = argparse.ArgumentParser(description=__doc__.split('\n')[0])
     parser.add_argument('--jobs', type=int, default=4)
-    parser.add_argument('--apart', action='store_true')
+    parser.add_argument('--keep')
+    parser.add_argument('--proofs', action='store_true')
     parser.add_argument('--log')
     parser.add_argument('crates', nargs='*')
     given = parser.parse_args()
     if given.log:
         print_loads(given.log)
         return
-    uses = crates()
-    wanted = below(uses, given.crates or set(uses)) - NEVER_KEPT
-    rows, failed = [], False
-    for crate, spent, passed in prove_all(uses, wanted, given.jobs, given.apart):
-        failed |= not passed
-        print(f'{crate}: {" + ".join(f"{seconds:.0f}" for seconds in spent)} s{"" if passed else ", FAILED"}', file=sys.stderr, flush=True)
-        rows.append((sum(spent), crate, spent))
-    print_costs(rows, given.apart)
-    sys.exit(failed or len(rows) < len(wanted))
+    with tempfile.TemporaryDirectory() as gone:
+        costs = Costs(given.keep or gone, given.proofs)
+        wanted = below(costs.uses, given.crates or costs.uses)
+        failed = costs.run(wanted, given.jobs)
+        costs.print(wanted)
+    if failed:
+        print('not passed:', ', '.join(sorted(failed)), file=sys.stderr)
+    sys.exit(bool(failed))
 
 
 if __name__ == '__main__':

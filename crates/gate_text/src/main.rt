@@ -1,10 +1,17 @@
-//! What the gate asks of JavaScript texts: rows of `read_text`, and of `print_text`, `print_text_with_comments` and `edit_text` above it. With arguments it runs a work that is
-//! refused memory (`refuse`).
+//! What the gate asks of JavaScript texts: rows of `read_text`, and of `print_text`, `print_text_with_comments` and `edit_text` above it
+//! (`words`), of trees that a text would have (`trees`), and of `mucwathi` (`commands`). With arguments it runs a work that is refused
+//! memory (`refuse`).
 //!
 //! Standard input has rows. A row begins with its words; then come the lines of a text, each behind `> `, and those of what is
-//! wanted, each behind `= `. Of two texts a line `> ====` stands between. In a text `⟨0D⟩` is the byte 13. Empty lines, and those that begin with `#`, are for people.
+//! wanted, each behind `= `. Of two texts a line `> ====` stands between. In a text `⟨0D⟩` is the byte 13. Empty lines, and those that
+//! begin with `#`, are for people.
+//!
+//! Of `mucwathi` the words are those of a command line; for `judge` the lines of the second text stand behind `< `. Wanted are, too,
+//! those of a source map, behind `@ `, those that are told, behind `! `, and a status but 0, behind `? `. A line of the text behind
+//! `^ `, and one that is written behind `v `, has many levels: `^ 3 ( x ) ;` is `> (((x)));`.
 #![tactic(auto)]
 
+mod commands;
 mod commented;
 mod edit;
 mod levels;
@@ -15,6 +22,7 @@ mod refuse;
 mod rows;
 mod shifts;
 mod show;
+mod trees;
 mod words;
 
 use anyhow::{Result, bail};

@@ -7,6 +7,7 @@ use crate::print::print;
 use crate::read::{cuts, read};
 use crate::shifts::shifts;
 use crate::words::{Asked, Task, parse_words};
+use crate::{commands, trees};
 use anyhow::{Result, bail};
 use std::alloc::Global;
 use text_printer::Bytes;
@@ -41,8 +42,20 @@ pub(crate) fn add_bytes(line: &str, text: &mut Bytes) -> bool {
     true
 }
 
-fn begins_row(line: &str) -> bool {
-    !line.is_empty() && !line.starts_with("#") && !line.starts_with("> ") && !line.starts_with("= ")
+// The marks of lines behind a row's words.
+const MARKS: [&str; 8] = ["> ", "= ", "< ", "@ ", "! ", "? ", "^ ", "v "];
+
+/// Whether a row begins with the line.
+pub(crate) fn begins_row(line: &str) -> bool {
+    if line.is_empty() || line.starts_with("#") {
+        return false;
+    }
+    for mark in MARKS {
+        if line.starts_with(mark) {
+            return false;
+        }
+    }
+    true
 }
 
 impl Row {
@@ -133,13 +146,14 @@ enum Outcome {
 }
 
 fn try_task(alloc: Global, words: &str, lines: &[String]) -> Outcome {
-    let Some(asked) = parse_words(words) else {
-        return Outcome::Unanswered("there is no such task");
-    };
     let Some((text, wanted)) = row_of(alloc, lines) else {
         return Outcome::Unanswered("a byte is not written as it should be");
     };
-    match answer(alloc, asked, text.as_slice()) {
+    let answered = match parse_words(words) {
+        Some(asked) => answer(alloc, asked, text.as_slice()),
+        None => trees::answer(alloc, words, text.as_slice()),
+    };
+    match answered {
         Some(answer) => {
             if answer.as_str().as_bytes() == wanted.as_slice() {
                 Outcome::Wanted
@@ -154,6 +168,9 @@ fn try_task(alloc: Global, words: &str, lines: &[String]) -> Outcome {
 // Whether a row, by the number of its first line and the lines behind its words, is answered as it wants. Says what is
 // answered else.
 fn is_answered(rt: &HostRuntime, number: u32, words: &str, lines: &[String]) -> Result<bool> {
+    if words.starts_with("mucwathi") {
+        return commands::is_answered(rt, words, lines);
+    }
     match try_task(rt.alloc(), words, lines) {
         Outcome::Wanted => return Ok(true),
         Outcome::Other(answer) => println!(rt; "line {number}: {words}\n= {answer}")?,

@@ -15,9 +15,30 @@ pub(crate) const NOT_READ: u8 = 4;
 
 pub(crate) const REFUSED: u8 = 5;
 
+// The file that a word names, if it is not `-`, which means standard input.
+fn file_of(word: &str) -> Option<&str> {
+    if word == "-" { None } else { Some(word) }
+}
+
+// What is read where no file is named or one.
+fn input_of(file: Option<&str>) -> Option<&str> {
+    match file {
+        Some(word) => file_of(word),
+        None => None,
+    }
+}
+
 // What a file is called in what is told.
 fn name_of(file: Option<&str>) -> &str {
     file.unwrap_or("<stdin>")
+}
+
+const READ_TWICE: &str = "standard input can be read once";
+
+// Tells why words ask for what can't be done.
+fn tell_misuse(rt: &HostRuntime, why: &str) -> u8 {
+    let _ = eprintln!(rt; "mucwathi: {why}");
+    USAGE
 }
 
 fn tell_failure(rt: &HostRuntime, name: &str, what: &str, error: &io::Error) -> u8 {
@@ -173,10 +194,11 @@ fn rewrite_each(rt: &HostRuntime, taken: &mut Taken, task: &Rewriting<'_>) -> u8
     let mut number: usize = 0;
     for file in task.files.iter() {
         number = number.saturating_add(1);
-        tell_progress(rt, number, task.files.len(), *file);
-        let done = match prefix_for(rt.alloc(), task.files.len(), *file) {
-            Ok(prefix) => rewrite_one(rt, taken, task, prefix.as_str(), Some(*file)),
-            Err(_) => tell_no_memory(rt, *file),
+        let file = file_of(*file);
+        tell_progress(rt, number, task.files.len(), name_of(file));
+        let done = match prefix_for(rt.alloc(), task.files.len(), name_of(file)) {
+            Ok(prefix) => rewrite_one(rt, taken, task, prefix.as_str(), file),
+            Err(_) => tell_no_memory(rt, name_of(file)),
         };
         if status < done {
             status = done;
@@ -185,10 +207,33 @@ fn rewrite_each(rt: &HostRuntime, taken: &mut Taken, task: &Rewriting<'_>) -> u8
     status
 }
 
+// How often standard input is named.
+fn count_inputs(files: &[&str]) -> usize {
+    let mut count: usize = 0;
+    for file in files {
+        if *file == "-" {
+            count = count.saturating_add(1);
+        }
+    }
+    count
+}
+
+// Why standard input can't be read as it is named, if it can't.
+fn misnamed_input(task: &Rewriting<'_>) -> Option<&'static str> {
+    match (count_inputs(task.files.as_slice()), task.target) {
+        (0, _) | (1, Target::Output) => None,
+        (_, Target::Output) => Some(READ_TWICE),
+        _ => Some("--in-place and --out want files"),
+    }
+}
+
 fn rewrite(rt: &HostRuntime, task: &Rewriting<'_>) -> u8 {
     if let Some(misuse) = misuse_of(task) {
         let _ = eprintln!(rt; "mucwathi: {misuse}");
         return USAGE;
+    }
+    if let Some(why) = misnamed_input(task) {
+        return tell_misuse(rt, why);
     }
     let Ok(mut taken) = Taken::of(rt, task.files.as_slice()) else {
         return tell_no_memory(rt, "mucwathi");
@@ -201,37 +246,38 @@ fn rewrite(rt: &HostRuntime, task: &Rewriting<'_>) -> u8 {
 
 fn judge_texts(rt: &HostRuntime, task: &Judging<'_>, before: &[u8], after: &[u8]) -> u8 {
     let first = Named {
-        name: task.before,
+        name: name_of(file_of(task.before)),
         text: before,
     };
-    let second = Named {
-        name: task.after,
-        text: after,
-    };
+    let name = name_of(file_of(task.after));
+    let second = Named { name, text: after };
     let answer = answer_judging(rt.alloc(), task, first, second);
-    give(rt, task.after, answer)
+    give(rt, name, answer)
 }
 
 fn judge(rt: &HostRuntime, task: &Judging<'_>) -> u8 {
-    let before = match read_told(rt, Some(task.before)) {
+    if task.before == "-" && task.after == "-" {
+        return tell_misuse(rt, READ_TWICE);
+    }
+    let before = match read_told(rt, file_of(task.before)) {
         Ok(text) => text,
         Err(status) => return status,
     };
-    match read_told(rt, Some(task.after)) {
+    match read_told(rt, file_of(task.after)) {
         Ok(after) => judge_texts(rt, task, before.as_slice(), after.as_slice()),
         Err(status) => status,
     }
 }
 
 fn look_at(rt: &HostRuntime, view: View, task: &Looking<'_>, text: &[u8]) -> u8 {
-    let name = name_of(task.file);
+    let name = name_of(input_of(task.file));
     let of = Named { name, text };
     let answer = answer_looking(rt.alloc(), view, task.goal, of);
     give(rt, name, answer)
 }
 
 fn look(rt: &HostRuntime, view: View, task: &Looking<'_>) -> u8 {
-    match read_told(rt, task.file) {
+    match read_told(rt, input_of(task.file)) {
         Ok(text) => look_at(rt, view, task, text.as_slice()),
         Err(status) => status,
     }
@@ -257,6 +303,6 @@ pub(crate) fn run(rt: &HostRuntime, task: &Task<'_>) -> u8 {
         Task::Rewrite(task) => rewrite(rt, task),
         Task::Judge(task) => judge(rt, task),
         Task::Look(view, task) => look(rt, *view, task),
-        Task::ResolveGiven(task, giving) => resolve_given(rt, task.file, giving),
+        Task::ResolveGiven(task, giving) => resolve_given(rt, input_of(task.file), giving),
     }
 }

@@ -1,7 +1,7 @@
 // The program mucwathi as a user runs it: files, what is told of them, and texts of many levels.
 import assert from 'node:assert/strict';
 import { spawnSync } from 'node:child_process';
-import { chmodSync, lstatSync, mkdirSync, mkdtempSync, readFileSync, readdirSync, rmSync, statSync, symlinkSync, writeFileSync } from 'node:fs';
+import { chmodSync, existsSync, lstatSync, mkdirSync, mkdtempSync, readFileSync, readdirSync, rmSync, statSync, symlinkSync, writeFileSync } from 'node:fs';
 import { tmpdir } from 'node:os';
 import { join } from 'node:path';
 import { mucwathiAt } from '../keep_files.mjs';
@@ -41,6 +41,21 @@ const FILES = {
   'a file, and standard input': inFolder((folder) => {
     expect(run(folder, ['chain', 'a.js']), 0, { stdout: CHAINED });
     expect(run(folder, ['chain'], SOURCE), 0, { stdout: CHAINED });
+  }),
+  '- is standard input': inFolder((folder, text) => {
+    writeFileSync(join(folder, '-'), 'b;\n');
+    expect(run(folder, ['chain', '-'], SOURCE), 0, { stdout: CHAINED });
+    expect(run(folder, ['names', '-'], 'a;\n'), 0, { stdout: '1:1 a\n' });
+    expect(run(folder, ['resolve', '-'], 'a;\n'), 0, { stdout: 'a;\n' });
+    expect(run(folder, ['judge', '-', 'a.js'], SOURCE), 0, { stdout: 'the same\n' });
+    expect(run(folder, ['judge', 'a.js', '-'], SOURCE), 0, { stdout: 'the same\n' });
+    expect(run(folder, ['chain', '-'], 'a b'), 3, { stderr: /^<stdin>:1:3: / });
+    expect(run(folder, ['chain', '--list', '-', 'b.js'], SOURCE), 0, { stdout: '<stdin>:1:38 x x1\n' });
+    expect(run(folder, ['judge', '-', '-'], SOURCE), 2, { stderr: 'mucwathi: standard input can be read once\n' });
+    expect(run(folder, ['chain', '--list', '-', '-'], SOURCE), 2, { stderr: 'mucwathi: standard input can be read once\n' });
+    expect(run(folder, ['chain', '--in-place', 'a.js', '-'], SOURCE), 2, { stderr: 'mucwathi: --in-place and --out want files\n' });
+    expect(run(folder, ['chain', '--out', 'out', '-'], SOURCE), 2, { stderr: 'mucwathi: --in-place and --out want files\n' });
+    assert.deepEqual([text('-'), text('a.js'), existsSync(join(folder, 'out'))], ['b;\n', SOURCE, false]);
   }),
   '--in-place writes files whole, with their permissions, and leaves nothing else': inFolder((folder, text) => {
     chmodSync(join(folder, 'a.js'), READ_ONLY);

@@ -1,5 +1,5 @@
 //! What is answered to a row.
-use crate::row::Row;
+use crate::commands::row::Row;
 use mucwathi_answers::{
     Answer, Named, answer_given, answer_judging, answer_looking, answer_rewriting,
 };

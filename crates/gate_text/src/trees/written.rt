@@ -1,6 +1,6 @@
 //! Rows of programs that are written: the input is a tree of the class that a word names, and what is wanted is its compact text, or what
 //! keeps it from having one, and where.
-use crate::lack::node;
+use crate::trees::lack::node;
 use jsbase_form::path_to;
 use std::alloc::{AllocError, Global};
 use swc_tree_node::{Class, Content, Node, Slot};

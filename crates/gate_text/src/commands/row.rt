@@ -1,4 +1,5 @@
 //! A row.
+use crate::rows::begins_row;
 use std::alloc::{AllocError, Global};
 
 /// Words, texts, and what is wanted.
@@ -11,11 +12,6 @@ pub(crate) struct Row {
     pub map: String,
     pub told: String,
     pub status: String,
-}
-
-/// Whether a row begins with the line.
-pub(crate) fn begins_row(line: &str) -> bool {
-    line.starts_with("mucwathi")
 }
 
 fn words_of(alloc: Global, line: &str) -> Result<Vec<String>, AllocError> {

@@ -1,5 +1,5 @@
 //! Rows of programs that fit and that the grammar derives: the input is a tree, and what is wanted is whether it is `pinned` or `open`.
-use crate::lack::node;
+use crate::trees::lack::node;
 use std::alloc::Global;
 use swc_tree_node::{Class, Content, Slot};
 use text_pinned::is_pinned;

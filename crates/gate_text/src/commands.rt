@@ -1,8 +1,11 @@
-//! The rows of standard input.
-use crate::answered::answer;
-use crate::row::{Row, begins_row};
-use anyhow::{Result, bail};
+//! Rows of `mucwathi`: what is written, what is told, and the status.
+mod answered;
+mod row;
+
+use answered::answer;
+use anyhow::Result;
 use mucwathi_answers::Answer;
+use row::Row;
 
 // Whether bytes are the lines, the last of which may have no end.
 fn are_lines(bytes: &[u8], lines: &str) -> bool {
@@ -50,45 +53,8 @@ fn is_row_answered(rt: &HostRuntime, words: &str, row: &Row) -> Result<bool> {
     Ok(false)
 }
 
-// The same of the row that words and the lines behind them are.
-fn is_answered(rt: &HostRuntime, words: &str, lines: &[String]) -> Result<bool> {
+/// The same of the row that words and the lines behind them are.
+pub(crate) fn is_answered(rt: &HostRuntime, words: &str, lines: &[String]) -> Result<bool> {
     let row = Row::of_lines(rt.alloc(), words, lines)?;
     is_row_answered(rt, words, &row)
-}
-
-fn lines(rt: &HostRuntime) -> Result<Vec<String>> {
-    let mut lines = Vec::new(rt.alloc());
-    for line in rt.lines(rt.alloc()) {
-        lines.push(line?)?;
-    }
-    Ok(lines)
-}
-
-/// Goes over the rows of standard input. Says which differ, and how many passed.
-///
-/// # Errors
-///
-/// Where a row differs, and where memory is refused.
-pub(crate) fn replay(rt: &HostRuntime) -> Result<()> {
-    let lines = lines(rt)?;
-    let (mut passed, mut failed) = (0u32, 0u32);
-    let mut rest = lines.as_slice();
-    for _ in 0..lines.len() {
-        let [words, behind @ ..] = rest else {
-            break;
-        };
-        if begins_row(words.as_str()) {
-            if is_answered(rt, words.as_str(), behind)? {
-                passed = passed.saturating_add(1);
-            } else {
-                failed = failed.saturating_add(1);
-            }
-        }
-        rest = behind;
-    }
-    println!(rt; "{passed} passed, {failed} failed")?;
-    if failed > 0 {
-        bail!("{failed} rows differ");
-    }
-    Ok(())
 }
