@@ -12,7 +12,7 @@ Words are counted as `wc -w` counts them. Each page but docs/JSON.md, which is p
 table is wider than 300 columns: what is longer is a list.
 
 It also says which crates of crates.txt stand in no room of docs/ARCHITECTURE.md, or have no sentence there (examples in docs/EXAMPLES.md), and which use one that
-stands in a higher room or behind them in their own; which words of docs/DEFINITIONS.md have no formal name beside them; and what CHANGELOG.md names that users
+stands in a higher room or behind them in their own; which list one that they don't name, and how many files rt would have to sum up, where that is too many; which words of docs/DEFINITIONS.md have no formal name beside them; and what CHANGELOG.md names that users
 don't see: crates of laws and of the gate, tools, and names that are not public."""
 import glob
 import os
@@ -38,6 +38,8 @@ LIMITS = {
 PRINTED = {'docs/JSON.md'}
 ALL = 24000
 WIDEST = 300
+# How many files rt may have to read to sum libraries up: those below a crate count once for each way that leads there by crates.txt.
+SUMMED = 12_000_000
 # What begins a room of docs/ARCHITECTURE.md, in 14 columns before its crates, and crates, of which some have names that begin alike.
 ROOM = re.compile(r'^[a-z].{13}', re.M)
 CRATES = re.compile(r'(\w+)_\{([^}]*)\}|(\w+)')
@@ -158,9 +160,14 @@ def crates_in_order():
             for name in ([whole] if whole else [f'{begun}_{rest}' for rest in rests.split()])]
 
 
+def uses_of_crates():
+    """What crates.txt lists for each crate."""
+    return {line.split(':')[0].split()[0]: line.split(':')[1].split() for line in text_of('crates.txt').split('\n') if ':' in line}
+
+
 def misplaced():
     """What is wrong with the order of crates."""
-    uses = {line.split(':')[0].split()[0]: line.split(':')[1].split() for line in text_of('crates.txt').split('\n') if ':' in line}
+    uses = uses_of_crates()
     place = {crate: number for number, crate in enumerate(crates_in_order())}
     for crate in uses:
         if crate not in place:
@@ -168,6 +175,34 @@ def misplaced():
         for used in uses[crate]:
             if crate in place and used in uses and place.get(used, -1) >= place[crate]:
                 yield f'{crate} uses {used}, which stands above it'
+
+
+def named(files):
+    """The crates that each crate's files name."""
+    found = {}
+    for file in files:
+        if part := re.fullmatch(r'crates/(\w+)/(?:src|specs|proofs)/.*\.(?:rt|antt)', file):
+            found.setdefault(part[1], set()).update(re.findall(r'\bRattle\.(\w+)|(?<![\w.:])(\w+)::|\bpub use (\w+);', text_of(file)))
+    return {crate: {name for names in those for name in names} for crate, those in found.items()}
+
+
+def idly_listed(files):
+    """What is wrong with what crates.txt lists for each crate."""
+    uses, words = uses_of_crates(), named(files)
+    for crate in uses:
+        for used in uses[crate]:
+            if used in uses and used not in words[crate]:
+                yield f'{crate} lists {used}, which it does not name'
+    numbers = {crate: sum(file.startswith(f'crates/{crate}/{part}/') for file in files for part in ('src', 'specs', 'proofs')) for crate in uses}
+    summed = {}
+
+    def sum_up(crate):
+        if crate not in summed:
+            summed[crate] = numbers[crate] + sum(sum_up(used) for used in uses[crate] if used in uses)
+        return summed[crate]
+    whole = sum(sum_up(crate) for crate in uses if f'crates/{crate}/src/main.rt' not in files)
+    if whole > SUMMED:
+        yield f'rt would read {whole:,} files to sum crates up, where {SUMMED:,} are allowed: name low crates through those that pass them on'
 
 
 def untold():
@@ -234,6 +269,7 @@ def main():
     faults = [fault for page in pages for fault in faults_of(page, files, words)]
     faults += too_long(found)
     faults += [f'docs/ARCHITECTURE.md: {fault}' for fault in misplaced()]
+    faults += [f'crates.txt: {fault}' for fault in idly_listed(files)]
     faults += [f'docs/ARCHITECTURE.md: no sentence says what {crate} is' for crate in untold()]
     faults += [f'docs/DEFINITIONS.md: {word} has no formal name beside it' for word in nameless()]
     faults += [f'CHANGELOG.md: {term} is nothing that users see' for term in unseen(files)]

@@ -15,7 +15,7 @@ pub mod rename;
 pub mod resolver;
 pub mod scope;
 
-pub use swc_ecma_transforms_base_chains::{
+pub use swc_ecma_transforms_base_chains_with::swc_ecma_transforms_base_chains::{
     chain_module, chain_script, finish_module, finish_script,
 };
 pub use swc_ecma_transforms_base_chains_with::{

@@ -13,3 +13,6 @@ mod fixed;
 pub use chain::{chain_module, chain_script};
 pub use finish::{finish_module, finish_script};
 pub use fixed::{fix_module, fix_script};
+
+// Libraries below that crates above name through this one.
+pub use swc_ecma_transforms_base_laws;

@@ -7,9 +7,9 @@ ghost use Rattle.swc_tree_renaming.specs.Apart.{IsPlainScript};
 ghost use Rattle.swc_tree_spaces.specs.Spaces.{has_types};
 ghost use Rattle.swc_base_rename.specs.Renamers.{renaming_in};
 ghost use Rattle.swc_base_resolver_program.specs.Marked.{MarksOk};
-ghost use Rattle.swc_ecma_transforms_base_laws.specs.Sources.{IsSource};
+ghost use Rattle.swc_ecma_transforms_base_chains.specs.Lower.swc_ecma_transforms_base_laws.specs.Sources.{IsSource};
 ghost use Rattle.swc_ecma_transforms_base_chains.specs.Chained.{ChainsBy, HasFreshMarks, IsAskedOfResolved, IsChainRefusalBy, IsOnceRenamed, SuitsOnceResolved};
-ghost use Rattle.swc_ecma_transforms_base_laws.specs.Headline.{KeepsItsForm, KeepsItsSource};
+ghost use Rattle.swc_ecma_transforms_base_chains.specs.Lower.swc_ecma_transforms_base_laws.specs.Headline.{KeepsItsForm, KeepsItsSource};
 ghost use Rattle.swc_ecma_transforms_base_chains.specs.Lent.{Became, MovesFor, MovesPartly};
 
 use crate::finish_with::{finish_typeless_module_by, finish_typeless_script_by};
@@ -17,7 +17,7 @@ use std::alloc::Global;
 use std::mem;
 use swc_base_rename::{Config, Renamer};
 use swc_base_resolver::resolver;
-use swc_ecma_transforms_base_laws::{
+use swc_ecma_transforms_base_chains::swc_ecma_transforms_base_laws::{
     lawful_renamers_keep_forms_of_sources, lawful_renamers_keep_sources,
 };
 use swc_tree::{

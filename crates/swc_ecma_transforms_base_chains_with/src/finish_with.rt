@@ -10,16 +10,16 @@ ghost use Rattle.swc_base_rename_hygiene_laws.specs.Laws.{IsFinishable};
 ghost use Rattle.swc_base_rename_hygiene_laws.specs.Renamers.{IsLawful, IsRenamedAndCleared};
 ghost use Rattle.swc_ecma_transforms_base_chains.specs.Finished.{FinishesBy, IsFinishRefusalBy};
 ghost use Rattle.swc_ecma_transforms_base_chains.specs.Lent.{Became, MovesFor, MovesPartly};
-ghost use Rattle.swc_ecma_transforms_base_laws.specs.Headline.{IsOfMemoryOrCounters, KeepsItsForm, KeepsItsPromises};
-ghost use Rattle.swc_ecma_transforms_base_laws.specs.Renamers.{Suits};
+ghost use Rattle.swc_ecma_transforms_base_chains.specs.Lower.swc_ecma_transforms_base_laws.specs.Headline.{IsOfMemoryOrCounters, KeepsItsForm, KeepsItsPromises};
+ghost use Rattle.swc_ecma_transforms_base_chains.specs.Lower.swc_ecma_transforms_base_laws.specs.Renamers.{Suits};
 
 use std::alloc::Global;
 use std::mem;
 use swc_base_rename::{Config, Renamer, settle_module_with, settle_script_with};
-use swc_ecma_transforms_base_chains::{fix_module, fix_script};
-use swc_ecma_transforms_base_laws::{
+use swc_ecma_transforms_base_chains::swc_ecma_transforms_base_laws::{
     finishing_renamed_meets_no_target, lawful_renamers_keep_forms, lawful_renamers_keep_promises,
 };
+use swc_ecma_transforms_base_chains::{fix_module, fix_script};
 use swc_tree::{
     Comments, Globals, Module, NoComments, PassError, Script, empty_module, empty_script,
     module_fits, script_fits, types_in_module, types_in_script,

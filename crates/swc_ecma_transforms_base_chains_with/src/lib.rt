@@ -9,3 +9,6 @@ mod finish_with;
 
 pub use chain_with::{chain_with_module, chain_with_script};
 pub use finish_with::{finish_with_module, finish_with_script};
+
+// Libraries below that crates above name through this one.
+pub use swc_ecma_transforms_base_chains;
