@@ -134,7 +134,8 @@ class Costs:
         with open(os.path.join(ROOT, 'crates.txt'), encoding='utf-8') as text, open(os.path.join(place, 'crates.txt'), 'w', encoding='utf-8') as listed:
             listed.writelines(line for line in text if line.split(':')[0] in {crate, *self.below[crate]})
         for each in self.below[crate]:
-            shutil.copytree(os.path.join(self.keep, 'crates', each), os.path.join(place, 'crates', each), copy_function=os.link)
+            shutil.copytree(os.path.join(self.keep, 'crates', each), os.path.join(place, 'crates', each), copy_function=os.link,
+                            ignore=shutil.ignore_patterns('incremental'))
         own = os.path.join(place, 'crates', crate)
         shutil.copytree(folder_of(crate), own, ignore=shutil.ignore_patterns('out'))
         if os.path.isdir(os.path.join(self.keep, 'crates', crate, 'out')):
