@@ -7,8 +7,9 @@ with those that it stands on, and takes the processor time of each run of `rt` a
 by both compilers of a program, on its rows; then `rt must-fail` of a crate that has edits. The first line of what it prints has all, then
 each crate has a line, the dearest first, with the seconds of its edits behind `+`. With --proofs no edit is tried and no program runs.
 
-FOLDER keeps what was built and what it took, so that a run that was ended goes on there; what changed since is proved anew, and all above it. Without --keep it is
-a folder that goes with the run. `rt ci` keeps nothing of this, nor takes it over: it is no gate.
+FOLDER keeps what was built and what it took, so that a run that was ended goes on there; what changed since is proved anew, and all
+above it. Without --keep it is a folder that goes with the run. It is no gate, and takes more of crates high up than the gate does, in which
+a check loads no proofs of the libraries below.
 
 With --log nothing is proved. A check loads the statements of all libraries that its types stand on, so many modules by the log; a crate
 with edits is checked once more for them, and each edit loads as much again. So a crate's modules count twice and once for each edit."""
