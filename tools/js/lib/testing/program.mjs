@@ -46,7 +46,7 @@ const FILES = {
     writeFileSync(join(folder, '-'), 'b;\n');
     expect(run(folder, ['chain', '-'], SOURCE), 0, { stdout: CHAINED });
     expect(run(folder, ['names', '-'], 'a;\n'), 0, { stdout: '1:1 a\n' });
-    expect(run(folder, ['resolve', '-'], 'a;\n'), 0, { stdout: 'a;\n' });
+    expect(run(folder, ['resolve', '-'], 'a;\n'), 0, { stdout: 'a#1;\n' });
     expect(run(folder, ['judge', '-', 'a.js'], SOURCE), 0, { stdout: 'the same\n' });
     expect(run(folder, ['judge', 'a.js', '-'], SOURCE), 0, { stdout: 'the same\n' });
     expect(run(folder, ['chain', '-'], 'a b'), 3, { stderr: /^<stdin>:1:3: / });
