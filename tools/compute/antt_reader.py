@@ -359,6 +359,8 @@ class Module:
         return patterns, Parser(items[i + 1:], self.shown).whole()
 
     def use(self, text, line):
+        # a library that another passes on is meant itself
+        text = re.sub(r'\bRattle(?:\.\w+\.specs\.Lower)+(?=\.)', 'Rattle', text)
         several = re.match(r'([^\s{]+?)\.\{(.*)\}$', text)
         if several:
             for part in several.group(2).split(','):
