@@ -4,10 +4,10 @@ refuse_memory.py --gate: the same for each work, on the rows of tools/memory_row
 is well. Each row there is a case, and all arguments that a work knows have a row; where there is no `cc`, no more than that is
 asked.
 
-WORK is `jsbase`, which is run from bytes to bytes, or `pass`, which runs a pass, with comments and renamers too: `gate_replay
-refuse` does both. Or it is a work of `gate_tables refuse`: `make` helpers, `name` them, `insert` a body, `inject` helpers, or
-`finish`, which is also for the chain and short names. Or it is a work of `gate_text refuse`: `read` a JavaScript text, or `print` its
-tree; these have rows in tools/memory_rows alone. FILE, else the `stdin` of that program's crate, has rows of three lines: arguments, an
+WORK is `jsbase`, which is run from bytes to bytes, or `pass`, which runs a pass, with comments and renamers too, or a work of rows
+behind `library`: `make` helpers, `name` them, `insert` a body, `inject` helpers, or `finish`, which is also for the chain and short
+names: `gate_replay refuse` does these. Or it is a work of `gate_text refuse`: `read` a JavaScript text, or `print` its tree; these
+have rows in tools/memory_rows alone. FILE, else the `stdin` of that program's crate, has rows of three lines: arguments, an
 input, and what comes of it with ample memory. The cases are the rows whose arguments begin with COMMAND, for `pass` those that
 begin with `pass COMMAND` too, and there none without a tree. A pass `rename` gives every name a new text, so of it these alone.
 
@@ -40,7 +40,7 @@ def in_each_setting(renamer):
     return tuple(renamer + mangles + resets for mangles in ('', ' mangles') for resets in ('', ' resets'))
 
 
-# The works of `gate_replay`, and the arguments of their rows; then those of `gate_tables` and of `gate_text`.
+# The works of `gate_replay`, and the arguments of their rows, those behind `library` apart; then those of `gate_text`.
 REPLAYED = {
     'jsbase': of_each('resolve', 'hygiene', 'unparen', 'fix', 'chain', 'mangle', 'judge', 'covers'),
     'pass': of_each(
@@ -48,7 +48,7 @@ REPLAYED = {
         *('rename', 'remap', 'letters', 'shortest', *in_each_setting('numbered'), *in_each_setting('suffixed')),
     ),
 }
-TABLES = {
+LIBRARY = {
     'make': ('helpers written out', 'helpers of a package'),
     'name': ('helper names',),
     'insert': of_each('helper written out in a'),
@@ -59,7 +59,7 @@ TEXTS = {
     'read': of_each('read'),
     'print': of_each('print', 'compact'),
 }
-WORKS = {**REPLAYED, **TABLES, **TEXTS}
+WORKS = {**REPLAYED, **LIBRARY, **TEXTS}
 
 
 class Case(NamedTuple):
@@ -74,15 +74,15 @@ class Case(NamedTuple):
 
 def crate_of(work):
     """The crate of the program that does a work."""
-    if work in TEXTS:
-        return 'gate_text'
-    return 'gate_tables' if work in TABLES else 'gate_replay'
+    return 'gate_text' if work in TEXTS else 'gate_replay'
 
 
 def command_of(work, words):
     """The arguments of a row as the work has them, if it does."""
     if work == 'pass':
         words = words.removeprefix('pass ') if not words.startswith('rename ') else ''
+    elif work in LIBRARY:
+        words = words.removeprefix('library ') if words.startswith('library ') else ''
     return words if words in WORKS[work] else None
 
 

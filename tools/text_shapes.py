@@ -1,5 +1,5 @@
 #!/usr/bin/env python3
-"""text_shapes.py PROGRAM [N]: how the time of example_edit_text grows with texts of one shape, as a table in Markdown.
+"""text_shapes.py PROGRAM [N]: how the time of example_text grows with texts of one shape, as a table in Markdown.
 
 PROGRAM is the built program of that crate. Each shape is a script of N, 2 N and 4 N parts (50,000, if N is not given): statements of one
 line, blocks, one list of an array, of an object, of arguments, of parameters, members of one class, operators in one chain, members in

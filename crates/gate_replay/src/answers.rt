@@ -1,5 +1,5 @@
 //! What is answered to a row.
-use crate::{analysed, engine, judged, kinds, plain, programs, serving, units};
+use crate::{analysed, engine, judged, kinds, library, plain, programs, serving, units};
 use anyhow::Result;
 use gate_rows::Answers;
 use std::alloc::Global;
@@ -55,6 +55,7 @@ impl Answers for OfRows {
         }
         match first {
             "kinds" => Ok(kinds::answer(alloc)),
+            "library" => Ok(library::answer(alloc, rest, input)),
             "unit" => Ok(units::answer(alloc, rest)),
             _ => engine::written(alloc, words, input),
         }

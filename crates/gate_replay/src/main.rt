@@ -9,6 +9,7 @@ mod answers;
 mod engine;
 mod judged;
 mod kinds;
+mod library;
 mod measure;
 mod plain;
 mod programs;

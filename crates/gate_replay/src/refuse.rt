@@ -1,7 +1,9 @@
-//! Works that may be refused memory: a run of `jsbase`, or of a pass over a program.
+//! Works that may be refused memory: a run of `jsbase`, of a pass over a program, or of a call.
 //!
-//! The arguments are `refuse`, then `jsbase` or `pass`, then the words of a command or a pass and a goal.
+//! The arguments are `refuse`, then `jsbase` or `pass` and the words of a command or a pass and a goal, each by itself; or a work of
+//! `library`, and the words of its row in one.
 use crate::engine::run_words;
+use crate::library;
 use crate::programs::{Pass, class_of};
 use anyhow::{Result, bail};
 use gate_rows::{Asked, Given, Said, Work};
@@ -128,21 +130,26 @@ fn joined(alloc: Global, words: &[String]) -> Result<String, AllocError> {
     Ok(line)
 }
 
-fn reply(alloc: Global, arguments: &[String], asked: &Asked) -> Result<Said> {
-    let [_, work, words @ ..] = arguments else {
-        bail!("the work is jsbase or pass");
-    };
+// Of a command of `jsbase`, or of a pass and a goal.
+fn reply_of_words(alloc: Global, work: &str, words: &[String], asked: &Asked) -> Result<Said> {
     let [before @ .., class] = words else {
         bail!("usage: gate_replay refuse jsbase|pass WORD.. module|script");
     };
-    match work.as_str() {
-        "jsbase" => asked.of(alloc, Written::of_asked(alloc, words, asked)),
-        "pass" => {
-            let class = class_of(class.as_str())?;
-            let word = joined(alloc, before)?;
-            asked.of(alloc, Passed::of_asked(alloc, word.as_str(), class, asked))
+    if work == "jsbase" {
+        return asked.of(alloc, Written::of_asked(alloc, words, asked));
+    }
+    let class = class_of(class.as_str())?;
+    let word = joined(alloc, before)?;
+    asked.of(alloc, Passed::of_asked(alloc, word.as_str(), class, asked))
+}
+
+fn reply(alloc: Global, arguments: &[String], asked: &Asked) -> Result<Said> {
+    match arguments {
+        [_, work, words @ ..] if matches!(work.as_str(), "jsbase" | "pass") => {
+            reply_of_words(alloc, work.as_str(), words, asked)
         }
-        _ => bail!("the work is jsbase or pass"),
+        [_, work, words] => library::reply(alloc, work.as_str(), words.as_str(), asked),
+        _ => bail!("usage: gate_replay refuse jsbase|pass|WORK WORD.."),
     }
 }
 

@@ -1,4 +1,4 @@
-// Whether the program example_read_text reads files as acorn does: `node reads.mjs [--program PATH] PATH..` takes files, and those below
+// Whether the program example_text reads files as acorn does: `node reads.mjs [--program PATH] PATH..` takes files, and those below
 // folders, in each goal, and tells of each that has another tree, spans in bytes and all, or that one of both refuses.
 import { spawnSync } from 'node:child_process';
 import { readFileSync } from 'node:fs';
@@ -6,7 +6,7 @@ import { filesBelow } from './command.mjs';
 import { byteOffsets } from './text_rows.mjs';
 import { treeOf } from './tree.mjs';
 
-const PROGRAM = new URL('../../../crates/example_read_text/out/example_read_text', import.meta.url).pathname;
+const PROGRAM = new URL('../../../crates/example_text/out/example_text', import.meta.url).pathname;
 const SPANS = new Set(['span', 'spread', 'dot3_token']);
 
 /** A tree with its spans in bytes. */
@@ -58,7 +58,7 @@ function acornsTree(bytes, goal) {
 }
 
 function ourTree(program, bytes, goal) {
-  const { stdout, stderr, status } = spawnSync(program, [goal], { input: bytes, maxBuffer: 2 ** 32 });
+  const { stdout, stderr, status } = spawnSync(program, [goal, 'tree'], { input: bytes, maxBuffer: 2 ** 32 });
   if (status !== 0) {
     throw new Error(stderr.toString().trim() || `status ${status}`);
   }

@@ -1,4 +1,4 @@
-// Whether the program example_edit_text keeps files byte for byte, and prints them so that acorn reads the same tree but for spans:
+// Whether the program example_text keeps files byte for byte, and prints them so that acorn reads the same tree but for spans:
 // `node rewrites.mjs [--program PATH] PATH..` takes files, and those below folders, in each goal in which acorn reads them, and tells of each
 // that is refused or comes out another.
 import { spawnSync } from 'node:child_process';
@@ -6,7 +6,7 @@ import { readFileSync } from 'node:fs';
 import { filesBelow } from './command.mjs';
 import { treeOf } from './tree.mjs';
 
-const PROGRAM = new URL('../../../crates/example_edit_text/out/example_edit_text', import.meta.url).pathname;
+const PROGRAM = new URL('../../../crates/example_text/out/example_text', import.meta.url).pathname;
 const SPANS = new Set(['span', 'dot3_token']);
 
 const textOf = (bytes) => new TextDecoder('utf-8', { fatal: true, ignoreBOM: true }).decode(bytes);

@@ -1,5 +1,5 @@
 //! Programs that are deeper than JSON may nest, through each pass but those that hold a map of names.
-use crate::injection::pass_of;
+use crate::library::injection::pass_of;
 use std::alloc::Global;
 use std::fmt::Write;
 use swc_base_rename::HygieneRenamer;

@@ -1,9 +1,10 @@
-//! From the bytes of a text to a text of its tree.
+//! From the bytes of a text to its tree, as JSON or as a text.
 ghost use Rattle.std.specs.Prelude.{◌≡◌, IfOk};
-ghost use Rattle.example_edit_text.specs.Answers.{IsAnswer, IsPrinted};
+ghost use Rattle.example_text.specs.Answers.{IsAnswer, IsPrinted, IsTree};
 ghost use Rattle.text_source.specs.Texts as spec;
 ghost use Rattle.text_source.specs.Texts.{IsTextOf};
 
+use jsbase_writer::write;
 use std::alloc::Global;
 use std::mem::forget;
 use swc_tree_node::Node;
@@ -20,6 +21,8 @@ const DEPTH: u32 = 4_000;
 pub enum Task {
     /// Nothing: it is read.
     Read,
+    /// Its tree, as JSON (docs/JSON.md).
+    Tree,
     /// Itself, edited to be the text of its own tree.
     Keep,
     /// The text of its tree, laid out anew.
@@ -52,6 +55,16 @@ fn read(alloc: Global, goal: Goal, text: &[u8]) -> Result<Node, Fault>
     match read_text(alloc, goal, DEPTH, text) {
         Ok(tree) => Ok(tree),
         Err(fault) => Err(Fault::Read(fault)),
+    }
+}
+
+fn tree(alloc: Global, goal: Goal, text: &[u8]) -> Result<Vec<u8>, Fault>
+    ensures { IfOk result (λ out. IsTree goal text.now out.items) }
+{
+    let tree = read(alloc, goal, text)?;
+    match write(alloc, &tree) {
+        Ok(json) => Ok(json.into_bytes()),
+        Err(_) => Err(Fault::Read(TextFault::NoMemory)),
     }
 }
 
@@ -89,6 +102,7 @@ pub fn answer(alloc: Global, goal: Goal, task: Task, text: &[u8]) -> Result<Vec<
             forget(tree);
             Ok(Vec::new(alloc))
         }
+        Task::Tree => tree(alloc, goal, text),
         Task::Keep => keep(alloc, goal, text),
         Task::Print(layout) => print(alloc, goal, layout, text),
     }

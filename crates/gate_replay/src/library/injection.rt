@@ -1,7 +1,7 @@
 //! Rows of helpers that are brought into programs. The input is an envelope, and behind a tab, where helpers are written out, the
 //! envelope of a script that is the body of the helper `throw`. The helper mark is 7, and the global mark is the unresolved one.
 //! Where the helper is refused, what is left stands behind the name of the refusal.
-use crate::finished::{Task, run};
+use crate::library::finished::{Task, run};
 use gate_rows::{Given, Program};
 use jsbase_writer::write;
 use std::alloc::Global;

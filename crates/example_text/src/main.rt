@@ -1,6 +1,6 @@
-//! `example_edit_text module|script read|keep|lines|compact`: reads a JavaScript text from standard input, and writes it edited to be that
-//! of its own tree, which changes nothing (`keep`), or printed anew; under `read` it writes nothing. A text that is none is refused
-//! with its line, its column and the cause.
+//! `example_text module|script read|tree|keep|lines|compact`: reads a JavaScript text from standard input, and writes its tree as JSON
+//! (`tree`), itself, edited to be the text of its own tree, which changes nothing (`keep`), or its tree printed anew; under `read` it
+//! writes nothing. A text that is none is refused with its line, its column and the cause.
 #![tactic(auto)]
 
 mod answer;
@@ -24,6 +24,7 @@ fn goal_named(word: &str) -> Option<Goal> {
 fn task_named(word: &str) -> Option<Task> {
     match word {
         "read" => Some(Task::Read),
+        "tree" => Some(Task::Tree),
         "keep" => Some(Task::Keep),
         "lines" => Some(Task::Print(Layout::Lines)),
         "compact" => Some(Task::Print(Layout::Compact)),
@@ -40,7 +41,7 @@ fn asked(goal: Option<String>, task: Option<String>) -> Option<(Goal, Task)> {
 fn main(rt: HostRuntime) -> Result<()> {
     let (goal, task) = (env::args(&rt)?.nth(1), env::args(&rt)?.nth(2));
     let Some((goal, task)) = asked(goal, task) else {
-        bail!("usage: example_edit_text module|script read|keep|lines|compact");
+        bail!("usage: example_text module|script read|tree|keep|lines|compact");
     };
     let mut text = Vec::new(rt.alloc());
     rt.stdin().read_to_end(&mut text)?;

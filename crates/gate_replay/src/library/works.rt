@@ -1,7 +1,7 @@
 //! Works that may be refused memory, each with all that it needs.
-use crate::finished::{Task, run, task_of};
-use crate::helpers::{named, names};
-use crate::injection::{
+use crate::library::finished::{Task, run, task_of};
+use crate::library::helpers::{named, names};
+use crate::library::injection::{
     body_of, helpers, helpers_of_package, name_of, pass_of, program_of, statements, throw,
 };
 use gate_rows::{Given, Notes, Work, room};
