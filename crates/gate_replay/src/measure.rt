@@ -45,9 +45,7 @@ pub fn serve(rt: &HostRuntime, word: &str) -> Result<()> {
     let text = match word {
         "json" => json(alloc, input.as_slice())?,
         "write" | "name" | "rename" => tree(alloc, word, input.as_slice())?,
-        _ => bail!(
-            "usage: gate_replay [json|write|name|rename|refuse jsbase|pass|WORK WORD..]"
-        ),
+        _ => bail!("usage: gate_replay [json|write|name|rename|refuse jsbase|pass|WORK WORD..]"),
     };
     rt.stdout().write_all(text.as_bytes())?;
     Ok(())

@@ -1,5 +1,5 @@
 -- What a lawful renamer and then the fixer answer declares no name against the rules, and neither `eval` nor `arguments`.
-use Rattle.std.proofs.Common.{◌≡◌, ℕ, true, false, IsTrue, Option, Some, List, [], codes, refl, sym, ap, ◌∙◌, subst, map, ⊎_elim, None}
+use Rattle.std.proofs.Common.{◌≡◌, ℕ, true, false, IsTrue, Option, Some, List, [], codes, refl, sym, ap, ◌∙◌, subst, map, ⊎_elim, None, true≢false}
 use Rattle.std.specs.Prelude.{if◌then◌else◌}
 use Rattle.std.specs.Option.{option_map}
 use Rattle.swc_tree_marks.specs.Globals.{Table}
@@ -329,7 +329,7 @@ module _ (laws : Laws) (renamer : Renaming) (table : Table) (config : Config) (p
       by_goal : (goal : Slot) → IsTrue (is_goal goal) → Fits middle goal → IsSettledIn goal middle → Fits after goal → IsTrue (labels_no_function after)
       by_goal (slot.One (content.Node class.Module)) is f settled g = absurd (no_module_is_script after (fits_module after g) s)
       by_goal (slot.One (content.Node class.Script)) is f settled g = (laws.whole place middle f writable_middle (settled refl)).settled.1
-      by_goal _ is f settled g = absurd (cc)
+      by_goal _ is f settled g = absurd (true≢false (sym is))
 
   -- a name of a global value is nobody's new text: where the answer's program takes it, the script's does
   no_global_value : SparesIfScript renamer before → DeclaresNoGlobalValue after
@@ -399,7 +399,7 @@ module _ (laws : Laws) (renamer : Renaming) (table : Table) (config : Config) (p
       by_goal : (goal : Slot) → IsTrue (is_goal goal) → Fits before goal → Fits after goal → ExportsDeclared (by_texts after)
       by_goal (slot.One (content.Node class.Module)) is f g = module_declares f g
       by_goal (slot.One (content.Node class.Script)) is f g = λ p name inside at. absurd (no_list_in_scripts after p g (writable_has_no_namespaces after script_place g writable_after) (list_back by_text after p inside))
-      by_goal _ is f g = absurd (cc)
+      by_goal _ is f g = absurd (true≢false (sym is))
 
   pub no_early_error : NoEarlyErrorOfNames after
   no_early_error = record { exports_declared = exports_declared; no_redeclaration = by_the_rules.no_redeclaration; no_eval_or_arguments = by_the_rules.no_eval_or_arguments }

@@ -1,5 +1,5 @@
 -- Programs of a goal that can be written down: their roots, and what their normal forms keep.
-use Rattle.std.proofs.Common.{◌≡◌, true, false, IsTrue, ◌⊎◌, inl, inr, List, [], ◌∷◌, map, refl, sym, ap, ◌∙◌, subst}
+use Rattle.std.proofs.Common.{◌≡◌, true, false, IsTrue, ◌⊎◌, inl, inr, List, [], ◌∷◌, map, refl, sym, ap, ◌∙◌, subst, true≢false}
 use Rattle.swc_tree_node.specs.declared.kind.Kind.TheVariants as kind
 use Rattle.swc_tree_node.specs.declared.kind.Class.TheVariants as class
 use Rattle.swc_tree_node.specs.declared.slot.Content.TheVariants as content
@@ -159,7 +159,7 @@ module _ (left : PlainScriptsAreLeft) where
   pub formed : (goal : Slot) (t : Node) → IsTrue (is_goal goal) → Fits t goal → Writable t → IsSettledIn goal t → Formed goal t
   formed (slot.One (content.Node class.Module)) t is fits writable settled = module_formed t fits writable
   formed (slot.One (content.Node class.Script)) t is fits writable settled = script_formed t fits writable (settled refl)
-  formed _ t is fits writable settled = absurd (cc)
+  formed _ t is fits writable settled = absurd (true≢false (sym is))
 
   module _ (whole : FixedScriptsLoseNoName) (place : Places) (middle : Node) where
     abbrev after : Node
@@ -194,4 +194,4 @@ module _ (left : PlainScriptsAreLeft) where
     pub answered : (goal : Slot) → IsTrue (is_goal goal) → Fits middle goal → Writable middle → IsSettledIn goal middle → Fits after goal → Writable after → Answered goal after
     answered (slot.One (content.Node class.Module)) is f w settled fits writable = module_answered f w fits writable
     answered (slot.One (content.Node class.Script)) is f w settled fits writable = script_answered f w (settled refl) fits writable
-    answered _ is f w settled fits writable = absurd (cc)
+    answered _ is f w settled fits writable = absurd (true≢false (sym is))

@@ -1,5 +1,5 @@
 -- The body of a `for` statement is its last part, so all else in the statement is entered before.
-use Rattle.std.proofs.Common.{◌≡◌, ℕ, suc, ◌<◌, Bool, true, false, not, ◌&&◌, IsTrue, ◌⊎◌, inl, inr, ⊎_elim, Option, Some, None, List, [], ◌∷◌, ◌++◌, map, Contains, refl, sym, ap, ◌∙◌, subst, arith, Less, Equal, Greater, Ordering, nat_cmp}
+use Rattle.std.proofs.Common.{◌≡◌, ℕ, suc, ◌<◌, Bool, true, false, not, ◌&&◌, IsTrue, ◌⊎◌, inl, inr, ⊎_elim, Option, Some, None, List, [], ◌∷◌, ◌++◌, map, Contains, refl, sym, ap, ◌∙◌, subst, arith, Less, Equal, Greater, Ordering, nat_cmp, true≢false}
 use Rattle.std.specs.List.{slice_get}
 use Rattle.std.specs.Prelude.{if◌then◌else◌}
 use Rattle.std.specs.Ordering.{MatchOrdering, ordering_reverse, ordering_then}
@@ -38,7 +38,7 @@ use Rattle.swc_base_rename_analysis_laws.proofs.Rounds.{IsRoundIn, all_steps, ro
 use Rattle.swc_base_rename_scoped_laws.proofs.Around.{IsSeen, IsSeenIn, surrounds}
 use Rattle.swc_base_rename_scoped_laws.proofs.ByIds.{IsAt}
 use Rattle.swc_base_rename_scoped_laws.proofs.Exports.{Part, part_fits}
-use Rattle.swc_base_rename_scoped_laws.proofs.Fields.{field_at, layer}
+use Rattle.swc_base_rename_scoped_laws.proofs.Fields.{field_at, layer, same_number}
 use Rattle.swc_base_rename_scoped_laws.proofs.Reached.{ident_leaf}
 use Rattle.swc_base_rename_scoped_laws.proofs.Takers.{IsBodyOf}
 
@@ -120,9 +120,9 @@ at_most l j h = by (nat_cmp l j) (ranks l j)
     by Greater r = absurd (omega (arith, r, h))
 
 last_field : (k : Kind) (j l : ℕ) (f : Field) → is_at (body_field k) j ≡ true → slice_get (fields_of k) l ≡ Some f → l < suc j
-last_field kind.ForStmt j l f h e = let n : j ≡ 4 = grind arith in let m = slice_get_within (fields_of kind.ForStmt) l f e in omega (arith, m, n)
-last_field kind.ForInStmt j l f h e = let n : j ≡ 3 = grind arith in let m = slice_get_within (fields_of kind.ForInStmt) l f e in omega (arith, m, n)
-last_field kind.ForOfStmt j l f h e = let n : j ≡ 4 = grind arith in let m = slice_get_within (fields_of kind.ForOfStmt) l f e in omega (arith, m, n)
+last_field kind.ForStmt j l f h e = let n : j ≡ 4 = sym (same_number 4 j h) in let m = slice_get_within (fields_of kind.ForStmt) l f e in omega (arith, m, n)
+last_field kind.ForInStmt j l f h e = let n : j ≡ 3 = sym (same_number 3 j h) in let m = slice_get_within (fields_of kind.ForInStmt) l f e in omega (arith, m, n)
+last_field kind.ForOfStmt j l f h e = let n : j ≡ 4 = sym (same_number 4 j h) in let m = slice_get_within (fields_of kind.ForOfStmt) l f e in omega (arith, m, n)
 last_field _ j l f h e = absurd (cc)
 
 in_turn : (k : Kind) (ts : List Node) (j i : ℕ) → is_at (body_field k) j ≡ true → turn (Node-F.Tree k ts) i ≡ i
@@ -142,15 +142,15 @@ first_step : {m l : ℕ} {n r : Path} → (m ∷ n) ≡ (l ∷ r) → m ≡ l
 first_step e = cc
 
 body_slot : (k : Kind) (j : ℕ) (f : Field) → is_at (body_field k) j ≡ true → slice_get (fields_of k) j ≡ Some f → f.1 ≡ slot.One (content.Node class.Stmt)
-body_slot kind.ForStmt j f h e = let n : j ≡ 4 = grind arith in at (sym (ap (slice_get (fields_of kind.ForStmt)) n) ∙ e)
+body_slot kind.ForStmt j f h e = let n : j ≡ 4 = sym (same_number 4 j h) in at (sym (ap (slice_get (fields_of kind.ForStmt)) n) ∙ e)
   where
     at : slice_get (fields_of kind.ForStmt) 4 ≡ Some f → f.1 ≡ slot.One (content.Node class.Stmt)
     at e = sym (ap (λ (f : Field). f.1) (some_field e))
-body_slot kind.ForInStmt j f h e = let n : j ≡ 3 = grind arith in at (sym (ap (slice_get (fields_of kind.ForInStmt)) n) ∙ e)
+body_slot kind.ForInStmt j f h e = let n : j ≡ 3 = sym (same_number 3 j h) in at (sym (ap (slice_get (fields_of kind.ForInStmt)) n) ∙ e)
   where
     at : slice_get (fields_of kind.ForInStmt) 3 ≡ Some f → f.1 ≡ slot.One (content.Node class.Stmt)
     at e = sym (ap (λ (f : Field). f.1) (some_field e))
-body_slot kind.ForOfStmt j f h e = let n : j ≡ 4 = grind arith in at (sym (ap (slice_get (fields_of kind.ForOfStmt)) n) ∙ e)
+body_slot kind.ForOfStmt j f h e = let n : j ≡ 4 = sym (same_number 4 j h) in at (sym (ap (slice_get (fields_of kind.ForOfStmt)) n) ∙ e)
   where
     at : slice_get (fields_of kind.ForOfStmt) 4 ≡ Some f → f.1 ≡ slot.One (content.Node class.Stmt)
     at e = sym (ap (λ (f : Field). f.1) (some_field e))
@@ -162,8 +162,8 @@ outside_only w kind.ClassExpr named i h e = absurd (cc)
 outside_only w kind.Constructor named i h e = absurd (cc)
 outside_only w kind.GetterProp named i h e = absurd (cc)
 outside_only w kind.SetterProp named i h e = absurd (cc)
-outside_only w kind.TsModuleDecl named i h e = (refl, grind arith)
-outside_only w _ named i h e = absurd (cc)
+outside_only w kind.TsModuleDecl named i h e = (refl, sym (same_number 1 i e))
+outside_only w _ named i h e = absurd (true≢false (sym e))
 
 named_slot : (k : Kind) (i : ℕ) (f : Field) → k ≡ kind.TsModuleDecl → i ≡ 1 → slice_get (fields_of k) i ≡ Some f → f.1 ≡ slot.One (content.Node class.Ident)
 named_slot k i f is one e = at (sym (ap (λ k. slice_get (fields_of k) i) is ∙ ap (slice_get (fields_of kind.TsModuleDecl)) one) ∙ e)

@@ -1,5 +1,5 @@
 -- What stands in a field or in a list fits there.
-use Rattle.std.proofs.Common.{◌≡◌, ℕ, zero, suc, not, ◌&&◌, IsTrue, Some, List, [], ◌∷◌, map, refl, sym, ap, ◌∙◌, subst}
+use Rattle.std.proofs.Common.{◌≡◌, ℕ, zero, suc, not, ◌&&◌, IsTrue, Some, List, [], ◌∷◌, map, refl, sym, ap, ◌∙◌, subst, Bool, true, ◌==◌, arith}
 use Rattle.std.specs.List.{slice_get}
 use Rattle.swc_tree_node.specs.declared.kind.Kind.{Kind}
 use Rattle.swc_tree_node.specs.declared.slot.Content.TheVariants as content
@@ -12,6 +12,10 @@ use Rattle.swc_tree_node.specs.Fits.{AllFit, FieldsFit, Fits, Test, belongs, eac
 use Rattle.swc_tree_node.proofs.Fit.{all_open, both, fields_open}
 use Rattle.swc_tree_scoping.specs.Places.{child, children_in}
 use Rattle.swc_tree_sites.proofs.Leaves.{Field}
+
+-- said apart, since `grind` looks at all that is known where it stands
+pub same_number : (m n : ℕ) → (m == n) ≡ true → m ≡ n
+same_number m n e = grind arith
 
 pub layer : (t : Node) (y : Node-F Node) (s : Slot) → out-Node t ≡ y → Fits t s → IsTrue (fit_step (map-Node Node Test fits y) s)
 layer t y s o h = subst (λ (f : Test). IsTrue (f s)) (fold_out-Node Test fit_step t ∙ ap (λ y. fit_step (map-Node Node Test fits y)) o) h

@@ -1,5 +1,5 @@
 -- A statement that may be the body of a loop or a branch leaves no lexical name to the scopes outside.
-use Rattle.std.proofs.Common.{◌≡◌, ◌≢◌, ℕ, zero, suc, Bool, true, false, not, ◌&&◌, ◌||◌, ◌==◌, IsTrue, ◌⊎◌, inl, inr, ⊎_elim, Option, Some, None, List, [], ◌∷◌, map, length, refl, sym, ap, ◌∙◌, subst, arith, cond}
+use Rattle.std.proofs.Common.{◌≡◌, ◌≢◌, ℕ, zero, suc, Bool, true, false, not, ◌&&◌, ◌||◌, ◌==◌, IsTrue, ◌⊎◌, inl, inr, ⊎_elim, Option, Some, None, List, [], ◌∷◌, map, length, refl, sym, ap, ◌∙◌, subst, cond, true≢false}
 use Rattle.std.specs.List.{slice_get}
 use Rattle.swc_tree_node.specs.declared.kind.Kind.{Kind}
 use Rattle.swc_tree_node.specs.declared.kind.Kind.TheVariants as kind
@@ -32,7 +32,7 @@ use Rattle.swc_tree_sites.specs.Sites.{Binding}
 use Rattle.swc_tree_sites.proofs.Loose.{Below, FromChild, is_no_identifier, own, pends, to_child}
 use Rattle.swc_tree_sites.proofs.Leaves.{Field, leaves_slot, may, same}
 use Rattle.swc_tree_sites.proofs.Pending.{left_fits}
-use Rattle.swc_base_rename_scoped_laws.proofs.Fields.{field_at, fields_at, layer}
+use Rattle.swc_base_rename_scoped_laws.proofs.Fields.{field_at, fields_at, layer, same_number}
 use Rattle.swc_base_rename_scoped_laws.proofs.Openings.{field_stands}
 use Rattle.swc_base_rename_scoped_laws.proofs.Rows.{exact3, exact4, half}
 use Rattle.swc_base_rename_scoped_laws.proofs.Written.{is_tree}
@@ -178,7 +178,10 @@ catch_takes w ts j = by (1 == j)
 taken_not : {A : Type 0} (o : Option (List ℕ)) → o ≡ Some [] → o ≡ None → A
 taken_not o e h = let z : Some [] ≡ None = sym e ∙ h in absurd (cc)
 
--- no default export is a part of a statement
+-- no default export is a part of a statement; said once, since `cc` would look at each kind's classes too
+plain_apart : standing.Plain ≢ standing.DefaultExport
+plain_apart e = absurd (cc)
+
 plain_default : (k : Kind) (i : ℕ) → IsTrue (belongs k class.Stmt) → plain_standing k i ≢ standing.DefaultExport
 plain_default kind.IfStmt i h = at (i == 2 || i == 3)
   where
@@ -186,7 +189,7 @@ plain_default kind.IfStmt i h = at (i == 2 || i == 3)
     at true e = absurd (cc)
     at false e = absurd (cc)
 plain_default kind.ExportDefaultDecl i h = absurd (cc)
-plain_default _ i h = λ e. absurd (cc)
+plain_default _ i h = plain_apart
 
 word_default : (w : Word) → by_word w ≢ standing.DefaultExport
 word_default word.Var e = absurd (cc)
@@ -242,7 +245,7 @@ held_kind : (k : Kind) (ts : List Node) (s : Slot) → is_block_slot s ≡ true 
 held_kind k ts (slot.One (content.Node class.BlockStmt)) q h = block_alone k (both (belongs k class.BlockStmt) (each_fits (slots_of k) (map fits ts)) (both (not (is_identifier k)) (belongs k class.BlockStmt && each_fits (slots_of k) (map fits ts)) h).1).0
 held_kind k ts (slot.Optional (content.Node class.BlockStmt)) q h = block_alone k (both (belongs k class.BlockStmt) (each_fits (slots_of k) (map fits ts)) (both (not (is_identifier k)) (belongs k class.BlockStmt && each_fits (slots_of k) (map fits ts)) h).1).0
 held_kind k ts (slot.Optional (content.Node class.CatchClause)) q h = catch_alone k (both (belongs k class.CatchClause) (each_fits (slots_of k) (map fits ts)) (both (not (is_identifier k)) (belongs k class.CatchClause && each_fits (slots_of k) (map fits ts)) h).1).0
-held_kind k ts _ q h = absurd (cc)
+held_kind k ts _ q h = absurd (true≢false (sym q))
 
 names_held : (w : Place) (k : Kind) (ts : List Node) (j : ℕ) → holds_names k ≡ true → is_statement_place w.standing ≡ true → own (opened_in w (Node-F.Tree k ts)) (view_in (Node-F.Tree k ts) j) standing.Lexical ≡ Some []
 names_held w kind.BlockStmt ts j h p = block_takes w ts j p
@@ -261,13 +264,13 @@ no_identifier : (k : Kind) (s : Slot) → is_block_slot s ≡ true → IsTrue (i
 no_identifier k (slot.One (content.Node class.BlockStmt)) q h = let p = both (is_identifier k) (belongs k class.BlockStmt) h in identifier_apart k p.0 (block_alone k p.1)
 no_identifier k (slot.Optional (content.Node class.BlockStmt)) q h = let p = both (is_identifier k) (belongs k class.BlockStmt) h in identifier_apart k p.0 (block_alone k p.1)
 no_identifier k (slot.Optional (content.Node class.CatchClause)) q h = let p = both (is_identifier k) (belongs k class.CatchClause) h in identifier_apart k p.0 (catch_alone k p.1)
-no_identifier k _ q h = absurd (cc)
+no_identifier k _ q h = absurd (true≢false (sym q))
 
 no_list : (ts : List Node) (s : Slot) → is_block_slot s ≡ true → IsTrue (list_fits (map fits ts) s) → ⊥
 no_list ts (slot.One (content.Node class.BlockStmt)) q h = absurd (cc)
 no_list ts (slot.Optional (content.Node class.BlockStmt)) q h = absurd (cc)
 no_list ts (slot.Optional (content.Node class.CatchClause)) q h = absurd (cc)
-no_list ts _ q h = absurd (cc)
+no_list ts _ q h = absurd (true≢false (sym q))
 
 block_held : (v : Place) (d : Node) (s : Slot) (x : Binding) (y : Node-F Node) → out-Node d ≡ y → Fits d s → is_block_slot s ≡ true → is_statement_place v.standing ≡ true → x.0 ≡ standing.Lexical → Below v d x None → ⊥
 block_held v d s x (Node-F.Tree k ts) o fit q place l g =
@@ -358,17 +361,17 @@ item_is : {c d : Node} → Some c ≡ Some d → c ≡ d
 item_is e = cc
 
 nest_sound : (k : Kind) (ts : List Node) (r : Round) (j : ℕ) (d : Node) → is_nest k ≡ true → leaks k j ≡ true → length ts ≡ length (slots_of k) → sound_in (Node-F.Tree k (map of ts)) r ≡ true → slice_get ts j ≡ Some d → Nested r d
-nest_sound kind.WithStmt ts r j d q lk n h e = let two : j ≡ 2 = grind arith in exact3 (λ ts. sound_in (Node-F.Tree kind.WithStmt (map of ts)) r ≡ true → slice_get ts 2 ≡ Some d → Nested r d) ts n (λ x o b h e. subst (Nested r) (item_is e) (with_sound x o b r h)) h (ap (slice_get ts) (sym two) ∙ e)
-nest_sound kind.WhileStmt ts r j d q lk n h e = let two : j ≡ 2 = grind arith in exact3 (λ ts. sound_in (Node-F.Tree kind.WhileStmt (map of ts)) r ≡ true → slice_get ts 2 ≡ Some d → Nested r d) ts n (λ x o b h e. subst (Nested r) (item_is e) (while_sound x o b r h)) h (ap (slice_get ts) (sym two) ∙ e)
-nest_sound kind.DoWhileStmt ts r j d q lk n h e = let one : j ≡ 1 = grind arith in exact3 (λ ts. sound_in (Node-F.Tree kind.DoWhileStmt (map of ts)) r ≡ true → slice_get ts 1 ≡ Some d → Nested r d) ts n (λ x b o h e. subst (Nested r) (item_is e) (do_sound x b o r h)) h (ap (slice_get ts) (sym one) ∙ e)
-nest_sound kind.LabeledStmt ts r j d q lk n h e = let two : j ≡ 2 = grind arith in exact3 (λ ts. sound_in (Node-F.Tree kind.LabeledStmt (map of ts)) r ≡ true → slice_get ts 2 ≡ Some d → Nested r d) ts n (λ x l b h e. subst (Nested r) (item_is e) (label_sound x l b r h)) h (ap (slice_get ts) (sym two) ∙ e)
+nest_sound kind.WithStmt ts r j d q lk n h e = let two : j ≡ 2 = same_number j 2 lk in exact3 (λ ts. sound_in (Node-F.Tree kind.WithStmt (map of ts)) r ≡ true → slice_get ts 2 ≡ Some d → Nested r d) ts n (λ x o b h e. subst (Nested r) (item_is e) (with_sound x o b r h)) h (ap (slice_get ts) (sym two) ∙ e)
+nest_sound kind.WhileStmt ts r j d q lk n h e = let two : j ≡ 2 = same_number j 2 lk in exact3 (λ ts. sound_in (Node-F.Tree kind.WhileStmt (map of ts)) r ≡ true → slice_get ts 2 ≡ Some d → Nested r d) ts n (λ x o b h e. subst (Nested r) (item_is e) (while_sound x o b r h)) h (ap (slice_get ts) (sym two) ∙ e)
+nest_sound kind.DoWhileStmt ts r j d q lk n h e = let one : j ≡ 1 = same_number j 1 lk in exact3 (λ ts. sound_in (Node-F.Tree kind.DoWhileStmt (map of ts)) r ≡ true → slice_get ts 1 ≡ Some d → Nested r d) ts n (λ x b o h e. subst (Nested r) (item_is e) (do_sound x b o r h)) h (ap (slice_get ts) (sym one) ∙ e)
+nest_sound kind.LabeledStmt ts r j d q lk n h e = let two : j ≡ 2 = same_number j 2 lk in exact3 (λ ts. sound_in (Node-F.Tree kind.LabeledStmt (map of ts)) r ≡ true → slice_get ts 2 ≡ Some d → Nested r d) ts n (λ x l b h e. subst (Nested r) (item_is e) (label_sound x l b r h)) h (ap (slice_get ts) (sym two) ∙ e)
 nest_sound kind.IfStmt ts r j d q lk n h e = by (j == 2) refl
   where
     by : (b : Bool) → (j == 2) ≡ b → Nested r d
-    by true z = let two : j ≡ 2 = grind arith in exact4 (λ ts. sound_in (Node-F.Tree kind.IfStmt (map of ts)) r ≡ true → slice_get ts 2 ≡ Some d → Nested r d) ts n (λ x o b a h e. subst (Nested r) (item_is e) (cons_sound x o b a r h)) h (ap (slice_get ts) (sym two) ∙ e)
+    by true z = let two : j ≡ 2 = same_number j 2 z in exact4 (λ ts. sound_in (Node-F.Tree kind.IfStmt (map of ts)) r ≡ true → slice_get ts 2 ≡ Some d → Nested r d) ts n (λ x o b a h e. subst (Nested r) (item_is e) (cons_sound x o b a r h)) h (ap (slice_get ts) (sym two) ∙ e)
     by false z =
         let later : (j == 3) ≡ true = sym (ap (λ b. b || j == 3) z) ∙ lk in
-        let three : j ≡ 3 = grind arith in
+        let three : j ≡ 3 = same_number j 3 later in
         exact4 (λ ts. sound_in (Node-F.Tree kind.IfStmt (map of ts)) r ≡ true → slice_get ts 3 ≡ Some d → Nested r d) ts n (λ x o b a h e. subst (Nested r) (item_is e) (alt_sound x o b a r h)) h (ap (slice_get ts) (sym three) ∙ e)
 nest_sound _ ts r j d q lk n h e = absurd (cc)
 
@@ -408,7 +411,7 @@ among_statements k ts h = (both (belongs k class.Stmt) (each_fits (slots_of k) (
 statement_kind : (k : Kind) (ts : List Node) (s : Slot) → is_statement_slot s ≡ true → IsTrue (tree_fits k (map fits ts) (single s)) → IsTrue (belongs k class.Stmt)
 statement_kind k ts (slot.One (content.Node class.Stmt)) q h = among_statements k ts h
 statement_kind k ts (slot.Optional (content.Node class.Stmt)) q h = among_statements k ts h
-statement_kind k ts _ q h = absurd (cc)
+statement_kind k ts _ q h = absurd (true≢false (sym q))
 
 switch_takes : (w : Place) (ts : List Node) (j : ℕ) → j ≡ 2 → own (opened_in w (Node-F.Tree kind.SwitchStmt ts)) (view_in (Node-F.Tree kind.SwitchStmt ts) j) standing.Lexical ≡ Some []
 switch_takes w ts j e = ap (λ j. own (opened_in w (Node-F.Tree kind.SwitchStmt ts)) (view_in (Node-F.Tree kind.SwitchStmt ts) j) standing.Lexical) e
@@ -422,7 +425,7 @@ ways w kind.BlockStmt ts j strict a lk p b = inr (inr (inl (block_takes w ts j p
 ways w kind.ForStmt ts j strict a lk p b = inr (inr (inl refl))
 ways w kind.ForInStmt ts j strict a lk p b = inr (inr (inl refl))
 ways w kind.ForOfStmt ts j strict a lk p b = inr (inr (inl refl))
-ways w kind.SwitchStmt ts j strict a lk p b = inr (inr (inl (switch_takes w ts j (grind arith))))
+ways w kind.SwitchStmt ts j strict a lk p b = inr (inr (inl (switch_takes w ts j (same_number j 2 lk))))
 ways w kind.TryStmt ts j strict a lk p b = inr (inl refl)
 ways w kind.WithStmt ts j strict a lk p b = inl refl
 ways w kind.LabeledStmt ts j strict a lk p b = inl refl
@@ -434,7 +437,7 @@ ways w kind.ClassDecl ts j strict a lk p b = absurd (cc)
 ways w kind.UsingDecl ts j strict a lk p b = absurd (cc)
 ways w kind.TsEnumDecl ts j strict a lk p b = absurd (cc)
 ways w kind.TsModuleDecl ts j strict a lk p b = absurd (cc)
-ways w _ ts j strict a lk p b = absurd (cc)
+ways w _ ts j strict a lk p b = absurd (true≢false (sym lk))
 
 some_field : {f g : Field} → Some f ≡ Some g → f ≡ g
 some_field e = cc
@@ -448,7 +451,7 @@ VarCase w ts j f strict k = slice_get (fields_of k) j ≡ Some f → leaks k j �
 
 var_case : (w : Place) (ts : List Node) (j : ℕ) (f : Field) (strict : Bool) → VarCase w ts j f strict kind.VarDecl
 var_case w ts j f strict number lk fit branch m =
-    let two : j ≡ 2 = grind arith in at (sym (ap (slice_get (fields_of kind.VarDecl)) two) ∙ number)
+    let two : j ≡ 2 = same_number j 2 lk in at (sym (ap (slice_get (fields_of kind.VarDecl)) two) ∙ number)
   where
     at : slice_get (fields_of kind.VarDecl) 2 ≡ Some f → ⊥
     at e = variable_left (by_keyword ts) (var_keyword strict ts fit branch)

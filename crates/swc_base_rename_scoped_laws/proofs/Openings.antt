@@ -1,5 +1,5 @@
 -- A scope of the analysis that a node opens takes from below no more than the language's scope there does.
-use Rattle.std.proofs.Common.{◌≡◌, ◌≢◌, ℕ, zero, suc, Bool, true, false, not, ◌&&◌, ◌||◌, ◌==◌, IsTrue, Some, None, List, [], ◌∷◌, map, refl, sym, ap, ◌∙◌, subst, cond, arith}
+use Rattle.std.proofs.Common.{◌≡◌, ◌≢◌, ℕ, zero, suc, Bool, true, false, not, ◌&&◌, ◌||◌, ◌==◌, IsTrue, Some, None, List, [], ◌∷◌, map, refl, sym, ap, ◌∙◌, subst, cond, true≢false}
 use Rattle.std.specs.List.{list_all, slice_get}
 use Rattle.std.specs.Option.{is_some, option_and_then}
 use Rattle.std.specs.Prelude.{unwrap_or, option_map}
@@ -140,17 +140,22 @@ fine_at g [] i f h e = absurd (cc)
 fine_at g (x ∷ fs) zero f h e = let same : x ≡ f = cc in ap (g zero) (sym same) ∙ first_true (g zero x) (all_fine (λ i. g (suc i)) fs) h
 fine_at g (x ∷ fs) (suc i) f h e = fine_at (λ i. g (suc i)) fs i f (second_true (g zero x) (all_fine (λ i. g (suc i)) fs) h) e
 
+each_at : (g : Standing → Bool) (rs : List Standing) (i : ℕ) (r : Standing) → list_all g rs ≡ true → slice_get rs i ≡ Some r → g r ≡ true
+each_at g [] i r h e = absurd (cc)
+each_at g (x ∷ rs) zero r h e = let same : x ≡ r = cc in ap g (sym same) ∙ first_true (g x) (list_all g rs) h
+each_at g (x ∷ rs) (suc i) r h e = each_at g rs i r (second_true (g x) (list_all g rs) h) e
+
 each_binding : (g : Standing → Bool) → list_all g bindings ≡ true → (r : Standing) → is_binding r ≡ true → g r ≡ true
-each_binding g h standing.Variable b = grind arith
-each_binding g h standing.Lexical b = grind arith
-each_binding g h standing.Function b = grind arith
-each_binding g h standing.BlockFunction b = grind arith
-each_binding g h standing.SloppyFunction b = grind arith
-each_binding g h standing.Parameter b = grind arith
-each_binding g h standing.CatchParameter b = grind arith
-each_binding g h standing.Import b = grind arith
-each_binding g h standing.FunctionName b = grind arith
-each_binding g h standing.ClassName b = grind arith
+each_binding g h standing.Variable b = each_at g bindings 0 standing.Variable h refl
+each_binding g h standing.Lexical b = each_at g bindings 1 standing.Lexical h refl
+each_binding g h standing.Function b = each_at g bindings 2 standing.Function h refl
+each_binding g h standing.BlockFunction b = each_at g bindings 3 standing.BlockFunction h refl
+each_binding g h standing.SloppyFunction b = each_at g bindings 4 standing.SloppyFunction h refl
+each_binding g h standing.Parameter b = each_at g bindings 5 standing.Parameter h refl
+each_binding g h standing.CatchParameter b = each_at g bindings 6 standing.CatchParameter h refl
+each_binding g h standing.Import b = each_at g bindings 7 standing.Import h refl
+each_binding g h standing.FunctionName b = each_at g bindings 8 standing.FunctionName h refl
+each_binding g h standing.ClassName b = each_at g bindings 9 standing.ClassName h refl
 each_binding g h _ b = absurd (cc)
 
 then_so : (a b : Bool) → implies a b ≡ true → a ≡ true → b ≡ true
@@ -200,10 +205,14 @@ catch_so : (b : Bool) (r : Standing) → is_binding r ≡ true → same (cond b 
 catch_so true r b h = never standing.Reference r (same standing.CatchParameter r) refl b h
 catch_so false r b h = h
 
+-- by the standing alone, then by the kind: both at once have some 2,500 cases
+expression_so : (k : Kind) (r : Standing) → same (own_name standing.Plain k) r ≡ true → bound_so k role.OwnName r ≡ true
+expression_so kind.FnExpr r h = h
+expression_so _ r h = h
+
 name_so : (k : Kind) (s r : Standing) → is_default_export s ≡ false → same (own_name s k) r ≡ true → bound_so k role.OwnName r ≡ true
 name_so k standing.DefaultExport r d h = absurd (cc)
-name_so kind.FnExpr _ r d h = h
-name_so _ _ r d h = h
+name_so k _ r d h = expression_so k r h
 
 so : (w : Place) (k : Kind) (ts : List Node) (i : ℕ) (x : Role) (r : Standing) → (is_named k ≡ true → is_default_export w.standing ≡ false) → is_binding r ≡ true → is_plain_role k x ≡ true → same (standing_below w k ts i x) r ≡ true → bound_so k x r ≡ true
 so w k ts i role.Plain r d b p h = never (plain_standing k i) r (bound_so k role.Plain r) (plain_binds_not k i) b h
@@ -224,11 +233,17 @@ chosen : (b : Bool) (s : Standing) → is_default_export s ≡ false → is_defa
 chosen true s h = refl
 chosen false s h = h
 
+default_not_default : (k : Kind) → is_default_export (own_name standing.DefaultExport k) ≡ false
+default_not_default kind.FnExpr = refl
+default_not_default _ = refl
+
+expression_not_default : (k : Kind) → is_default_export (own_name standing.Plain k) ≡ false
+expression_not_default kind.FnExpr = refl
+expression_not_default _ = refl
+
 name_not_default : (k : Kind) (s : Standing) → is_default_export (own_name s k) ≡ false
-name_not_default kind.FnExpr standing.DefaultExport = refl
-name_not_default kind.FnExpr _ = refl
-name_not_default _ standing.DefaultExport = refl
-name_not_default _ _ = refl
+name_not_default k standing.DefaultExport = default_not_default k
+name_not_default k _ = expression_not_default k
 
 field_not_default : (w : Place) (k : Kind) (ts : List Node) (i : ℕ) (x : Role) (r : Standing) → analysed k r ≡ true → is_plain_role k x ≡ true → is_default_export (standing_below w k ts i x) ≡ false
 field_not_default w k ts i role.Plain r a p = no_export k r i a
@@ -341,6 +356,12 @@ some_field e = cc
 plain_apart : standing.Plain ≢ standing.DefaultExport
 plain_apart e = absurd (cc)
 
+no_field : {f : Field} → None ≡ Some f → ⊥
+no_field e = absurd (cc)
+
+no_node : {d : Node} → Some d ≡ None → ⊥
+no_node e = absurd (cc)
+
 none_left : (own : Bool) (r : Standing) → may (leaves_slot (slot.One (content.Node class.Class))) own r ≡ true → ⊥
 none_left own r h = absurd (cc)
 
@@ -401,15 +422,14 @@ no_class w t c ts s j b o fit there g d n = let (f, at, fits_it) = field_at t c 
         slot_is = ap (λ (f : Field). f.1) (some_field at)
 
         none_below : is_no_identifier (out-Node c) ≡ true → ((i : ℕ) → child c i ≡ None) → ⊥
-        none_below i none = let (l, d, z, h, e) = to_child (place_below w t zero) c b None tt i g in let y : Some d ≡ None = sym z ∙ none l in absurd (cc)
+        none_below i none = let (l, d, z, h, e) = to_child (place_below w t zero) c b None tt i g in no_node (sym z ∙ none l)
 
         named_one : (y : Node-F Node) → out-Node c ≡ y → ⊥
         named_one (Node-F.Identifier l i) o' =
             let there' : slice_get ts 0 ≡ Some c = sym (ap (λ y. slice_get (children_in y) 0) o) ∙ there in
             let has : has_identifier ts ≡ true = ap (λ o. is_some (name_of o)) there' ∙ ap (λ y. is_some (name_in y)) o' in
-            let z : true ≡ false = sym ((λ i. d i && (has i && true))) ∙ n in
-            absurd (cc)
-        named_one (Node-F.List us) o' = let z = layer c (Node-F.List us) (slot.Optional (content.Node class.Ident)) o' (subst (Fits c) (sym slot_is) fits_it) in absurd (cc)
+            true≢false (sym ((λ i. d i && (has i && true))) ∙ n)
+        named_one (Node-F.List us) o' = true≢false (sym (layer c (Node-F.List us) (slot.Optional (content.Node class.Ident)) o' (subst (Fits c) (sym slot_is) fits_it)))
         named_one (Node-F.Tree l us) o' = no_tree l us (layer c (Node-F.Tree l us) (slot.Optional (content.Node class.Ident)) o' (subst (Fits c) (sym slot_is) fits_it))
         named_one Node-F.Absent o' = none_below (ap is_no_identifier o') (λ i. ap (λ y. slice_get (children_in y) i) o')
         named_one (Node-F.Flag x) o' = none_below (ap is_no_identifier o') (λ i. ap (λ y. slice_get (children_in y) i) o')
@@ -421,7 +441,7 @@ no_class w t c ts s j b o fit there g d n = let (f, at, fits_it) = field_at t c 
         let plain : standing.Plain ≡ (place_below w t 1).standing = sym (field_stands w t kind.ClassExpr ts 1 f o at ∙ ap (λ (f : Field). standing_below w kind.ClassExpr ts 1 f.2) (sym (some_field at))) in
         let left = left_fits c (place_below w t 1) f.1 b fits_it (subst (λ r. r ≢ standing.DefaultExport) plain (λ e. plain_apart e)) ((pends c (place_below w t 1) b).1 g) in
         none_left (same (place_below w t 1).standing b.0) b.0 (subst (λ s. may (leaves_slot s) (same (place_below w t 1).standing b.0) b.0 ≡ true) (sym slot_is) left)
-    by (suc (suc j)) f at fits_it there g n = absurd (cc)
+    by (suc (suc j)) f at fits_it there g n = no_field at
 
 -- a scope of the analysis that is its node's own takes what that of the language does
 pub held : (w : Place) (t c : Node) (k : Kind) (ts : List Node) (s : Slot) (j : ℕ) (b : Binding) (a : ScopeKind) → out-Node t ≡ Node-F.Tree k ts → Fits t s → child t j ≡ Some c → Below (place_below w t j) c b None
@@ -450,4 +470,4 @@ held w t c k ts s j b a o fit there g e h n = by (is_class k && is_default_expor
       where
         exported : (k : Kind) → out-Node t ≡ Node-F.Tree k ts → is_outside w k (has_identifier ts) j ≡ false → (is_class k && is_default_export w.standing) ≡ true → ⊥
         exported kind.ClassExpr o n x = no_class w t c ts s j b o fit there g x n
-        exported _ o n x = absurd (cc)
+        exported _ o n x = true≢false (sym x)

@@ -1,6 +1,6 @@
 -- The scope of the analysis that declares a name is that of the language, or stands round it; but for a lexical name that
 -- stands directly in the body of a `for` statement.
-use Rattle.std.proofs.Common.{◌≡◌, ◌≢◌, ℕ, Bool, true, false, ◌⊎◌, inl, inr, Option, Some, None, List, [], ◌∷◌, ◌++◌, map, refl, sym, ap, ◌∙◌, subst, cond, arith}
+use Rattle.std.proofs.Common.{◌≡◌, ◌≢◌, ℕ, Bool, true, false, ◌⊎◌, inl, inr, Option, Some, None, List, [], ◌∷◌, ◌++◌, map, refl, sym, ap, ◌∙◌, subst, cond}
 use Rattle.std.specs.List.{slice_get}
 use Rattle.std.specs.Prelude.{if◌then◌else◌}
 use Rattle.swc_tree_node.specs.declared.kind.Kind.{Kind}
@@ -28,7 +28,7 @@ use Rattle.swc_base_rename_analysis.specs.declared.scopes.ScopeKind.TheVariants.
 use Rattle.swc_base_rename_analysis.specs.Analysis.{Around, body_field, body_kind, first_taking, has_identifier, is_for_body, is_outside, opened_here, opened_round, own_kind, scopes_below, takes}
 use Rattle.swc_base_rename_analysis.specs.Laws.{is_body_at}
 use Rattle.swc_base_rename_analysis.proofs.Kept.{lower}
-use Rattle.swc_base_rename_scoped_laws.proofs.Fields.{field_at, item_at}
+use Rattle.swc_base_rename_scoped_laws.proofs.Fields.{field_at, item_at, same_number}
 use Rattle.swc_base_rename_scoped_laws.proofs.Openings.{field_stands, held}
 
 -- the nearest scope of the analysis in a node that takes what stands so
@@ -80,15 +80,15 @@ some_field : {f g : Field} → Some f ≡ Some g → f ≡ g
 some_field e = cc
 
 pub body_number : (k : Kind) (j : ℕ) (f : Field) (w : Place) (ts : List Node) → is_at (body_field k) j ≡ true → slice_get (fields_of k) j ≡ Some f → (f.1 ≡ slot.One (content.Node class.Stmt)) × (standing_below w k ts j f.2 ≡ standing.Plain)
-body_number kind.ForStmt j f w ts h e = let n : j ≡ 4 = grind arith in at (sym (ap (slice_get (fields_of kind.ForStmt)) n) ∙ e)
+body_number kind.ForStmt j f w ts h e = let n : j ≡ 4 = sym (same_number 4 j h) in at (sym (ap (slice_get (fields_of kind.ForStmt)) n) ∙ e)
   where
     at : slice_get (fields_of kind.ForStmt) 4 ≡ Some f → (f.1 ≡ slot.One (content.Node class.Stmt)) × (standing_below w kind.ForStmt ts j f.2 ≡ standing.Plain)
     at e = (sym (ap (λ (f : Field). f.1) (some_field e)), sym (ap (λ (f : Field). standing_below w kind.ForStmt ts j f.2) (some_field e)))
-body_number kind.ForInStmt j f w ts h e = let n : j ≡ 3 = grind arith in at (sym (ap (slice_get (fields_of kind.ForInStmt)) n) ∙ e)
+body_number kind.ForInStmt j f w ts h e = let n : j ≡ 3 = sym (same_number 3 j h) in at (sym (ap (slice_get (fields_of kind.ForInStmt)) n) ∙ e)
   where
     at : slice_get (fields_of kind.ForInStmt) 3 ≡ Some f → (f.1 ≡ slot.One (content.Node class.Stmt)) × (standing_below w kind.ForInStmt ts j f.2 ≡ standing.Plain)
     at e = (sym (ap (λ (f : Field). f.1) (some_field e)), sym (ap (λ (f : Field). standing_below w kind.ForInStmt ts j f.2) (some_field e)))
-body_number kind.ForOfStmt j f w ts h e = let n : j ≡ 4 = grind arith in at (sym (ap (slice_get (fields_of kind.ForOfStmt)) n) ∙ e)
+body_number kind.ForOfStmt j f w ts h e = let n : j ≡ 4 = sym (same_number 4 j h) in at (sym (ap (slice_get (fields_of kind.ForOfStmt)) n) ∙ e)
   where
     at : slice_get (fields_of kind.ForOfStmt) 4 ≡ Some f → (f.1 ≡ slot.One (content.Node class.Stmt)) × (standing_below w kind.ForOfStmt ts j f.2 ≡ standing.Plain)
     at e = (sym (ap (λ (f : Field). f.1) (some_field e)), sym (ap (λ (f : Field). standing_below w kind.ForOfStmt ts j f.2) (some_field e)))

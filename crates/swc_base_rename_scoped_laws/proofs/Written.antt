@@ -1,5 +1,5 @@
 -- Each part of a tree that can be written down can, or holds no statement.
-use Rattle.std.proofs.Common.{◌≡◌, ℕ, zero, suc, Bool, true, false, not, ◌&&◌, IsTrue, ⊎_elim, Option, Some, None, List, [], ◌∷◌, map, length, refl, sym, ap, ◌∙◌, subst, arith, cond}
+use Rattle.std.proofs.Common.{◌≡◌, ℕ, zero, suc, Bool, true, false, not, ◌&&◌, IsTrue, ⊎_elim, Option, Some, None, List, [], ◌∷◌, map, length, refl, sym, ap, ◌∙◌, subst, cond, true≢false}
 use Rattle.std.specs.List.{slice_get}
 use Rattle.swc_tree_node.specs.declared.kind.Kind.{Kind}
 use Rattle.swc_tree_node.specs.declared.kind.Kind.TheVariants as kind
@@ -22,7 +22,7 @@ use Rattle.swc_tree_grammar.specs.Writable.{Asked, Round, all_sound, binding, he
 use Rattle.swc_tree_grammar.proofs.Asked.{asked_list, head_tree, in_head, of, sound, sound_list, sound_tree}
 use Rattle.swc_tree_sites.proofs.Leaves.{Field}
 use Rattle.swc_base_rename_analysis.specs.Analysis.{body_field}
-use Rattle.swc_base_rename_scoped_laws.proofs.Fields.{field_at, fields_at, item_at, item_of, layer}
+use Rattle.swc_base_rename_scoped_laws.proofs.Fields.{field_at, fields_at, item_at, item_of, layer, same_number}
 use Rattle.swc_base_rename_scoped_laws.proofs.Rows.{EachStatus, Heads, Sounds, Status, exact3, exact4, exact5, first_sound, half, heard, is_quiet, is_quiet_class, is_quiet_in, is_quiet_kind, rest_sound, row, still}
 
 pub is_tree : (t : Node) (k : Kind) (ts : List Node) → out-Node t ≡ Node-F.Tree k ts → t ≡ Tree k ts
@@ -241,34 +241,34 @@ for_of_sound : (x a l t b : Node) (r : Round) → sound_in (Node-F.Tree kind.For
 for_of_sound x a l t b r h = let q = half {a = head (of l) r} h in let d = half {a = all_sound (of t ∷ []) (binding r)} q.1 in let m = half d.1 in (m.1, m.0)
 
 sound_body : (k : Kind) (ts : List Node) (r : Round) (j : ℕ) (c : Node) → is_at (body_field k) j ≡ true → length ts ≡ length (slots_of k) → sound_in (Node-F.Tree k (map of ts)) r ≡ true → slice_get ts j ≡ Some c → IsSoundBody c
-sound_body kind.ForStmt ts r j c is n h e = let four : j ≡ 4 = grind arith in (
+sound_body kind.ForStmt ts r j c is n h e = let four : j ≡ 4 = sym (same_number 4 j is) in (
   r,
   exact5 (λ ts. sound_in (Node-F.Tree kind.ForStmt (map of ts)) r ≡ true → slice_get ts 4 ≡ Some c → IsSoundIn r c) ts n
       (λ x i t u b h e. subst (IsSoundIn r) (fifth x i t u b c e) (for_sound x i t u b r h)) h (ap (slice_get ts) (sym four) ∙ e),
 )
-sound_body kind.ForInStmt ts r j c is n h e = let three : j ≡ 3 = grind arith in (
+sound_body kind.ForInStmt ts r j c is n h e = let three : j ≡ 3 = sym (same_number 3 j is) in (
   r,
   exact4 (λ ts. sound_in (Node-F.Tree kind.ForInStmt (map of ts)) r ≡ true → slice_get ts 3 ≡ Some c → IsSoundIn r c) ts n
       (λ x l t b h e. subst (IsSoundIn r) (fourth x l t b c e) (for_in_sound x l t b r h)) h (ap (slice_get ts) (sym three) ∙ e),
 )
-sound_body kind.ForOfStmt ts r j c is n h e = let four : j ≡ 4 = grind arith in (
+sound_body kind.ForOfStmt ts r j c is n h e = let four : j ≡ 4 = sym (same_number 4 j is) in (
   r,
   exact5 (λ ts. sound_in (Node-F.Tree kind.ForOfStmt (map of ts)) r ≡ true → slice_get ts 4 ≡ Some c → IsSoundIn r c) ts n
       (λ x a l t b h e. subst (IsSoundIn r) (fifth x a l t b c e) (for_of_sound x a l t b r h)) h (ap (slice_get ts) (sym four) ∙ e),
 )
-sound_body _ ts r j c is n h e = absurd (cc)
+sound_body _ ts r j c is n h e = absurd (true≢false (sym is))
 
 no_head : (k : Kind) (ts : List Node) (r : Round) (j : ℕ) → is_at (body_field k) j ≡ true → in_head_in (Node-F.Tree k (map of ts)) r ≡ true → ⊥
 no_head kind.ForStmt ts r j is h = absurd (cc)
 no_head kind.ForInStmt ts r j is h = absurd (cc)
 no_head kind.ForOfStmt ts r j is h = absurd (cc)
-no_head _ ts r j is h = absurd (cc)
+no_head _ ts r j is h = absurd (true≢false (sym is))
 
 not_quiet : (k : Kind) (j : ℕ) → is_at (body_field k) j ≡ true → is_quiet_kind k ≡ true → ⊥
 not_quiet kind.ForStmt j is h = absurd (cc)
 not_quiet kind.ForInStmt j is h = absurd (cc)
 not_quiet kind.ForOfStmt j is h = absurd (cc)
-not_quiet _ j is h = absurd (cc)
+not_quiet _ j is h = absurd (true≢false (sym is))
 
 pub body_there : (t c : Node) (k : Kind) (ts : List Node) (s : Slot) (j : ℕ) → out-Node t ≡ Node-F.Tree k ts → Fits t s → Status t s → is_at (body_field k) j ≡ true → child t j ≡ Some c → IsSoundBody c
 body_there t c k ts s j o fit status is e = ⊎_elim sounds (λ g. ⊎_elim heads (λ q. ⊎_elim by_slot by_kind q) g) status.how

@@ -1,5 +1,5 @@
 -- What an item of a module exports, once it is stripped or written out.
-use Rattle.std.proofs.Common.{◌≡◌, Bool, true, false, IsTrue, List, [], ◌∷◌, ◌++◌, map, refl, sym, ap, ◌∙◌, subst, cond, rules}
+use Rattle.std.proofs.Common.{◌≡◌, Bool, true, false, IsTrue, List, [], ◌∷◌, ◌++◌, map, refl, sym, ap, ◌∙◌, subst, cond, rules, true≢false}
 use Rattle.std.specs.List.{flat_map, list_all}
 use Rattle.swc_tree_marks.specs.declared.ident.Ident.{Ident}
 use Rattle.swc_tree_node.specs.declared.kind.Kind.{Kind}
@@ -64,7 +64,7 @@ stripped_name = of_class class.ModuleExportName (λ o. name_in (out-Node (stripp
     at : (k : Kind) (ts : List Node) → IsTrue (belongs k class.ModuleExportName) → name_in (out-Node (stripped (Tree k ts))) ≡ name_in (out-Node (Tree k ts))
     at kind.Str ts b = ap (λ t. name_in (out-Node t)) (stripped_other kind.Str ts refl) ∙ name_of_tree kind.Str (map stripped ts) ∙ sym (name_of_tree kind.Str ts)
     at kind.Ident ts b = let (us, is) = tree_stays kind.Ident ts refl in ap (λ t. name_in (out-Node t)) is ∙ name_of_tree kind.Ident us ∙ sym (name_of_tree kind.Ident ts)
-    at _ ts b = absurd (cc)
+    at _ ts b = absurd (true≢false (sym b))
 
 written_one : (o : Node) → Fits o (one class.ModuleExportName) → name_in (out-Node (written_out o)) ≡ name_in (out-Node o)
 written_one = of_class class.ModuleExportName (λ o. name_in (out-Node (written_out o)) ≡ name_in (out-Node o))
@@ -77,7 +77,7 @@ written_one = of_class class.ModuleExportName (λ o. name_in (out-Node (written_
     at : (k : Kind) (ts : List Node) → IsTrue (belongs k class.ModuleExportName) → name_in (out-Node (written_out (Tree k ts))) ≡ name_in (out-Node (Tree k ts))
     at kind.Str ts b = tree kind.Str ts refl
     at kind.Ident ts b = tree kind.Ident ts refl
-    at _ ts b = absurd (cc)
+    at _ ts b = absurd (true≢false (sym b))
 
 -- ---- specifiers
 
@@ -105,7 +105,7 @@ stripped_specifier = of_class class.ExportSpecifier StripsAlike (λ k i a b. abs
     at kind.ExportNamedSpecifier (s ∷ []) b f = absurd f.1
     at kind.ExportNamedSpecifier (s ∷ o ∷ []) b f = absurd f.1.1
     at kind.ExportNamedSpecifier (s ∷ o ∷ e ∷ x ∷ ts) b f = absurd f.1.1.1
-    at _ ts b f = absurd (cc)
+    at _ ts b f = absurd (true≢false (sym b))
 
 abbrev pub WritesAlike : Node → Type 0
 WritesAlike t = specified (specifier (written_out t)) ≡ specified t
@@ -131,7 +131,7 @@ written_specifier = of_class class.ExportSpecifier WritesAlike (λ k i a b. absu
     at kind.ExportNamedSpecifier (s ∷ []) b f = absurd f.1
     at kind.ExportNamedSpecifier (s ∷ o ∷ []) b f = absurd f.1.1
     at kind.ExportNamedSpecifier (s ∷ o ∷ e ∷ x ∷ ts) b f = absurd f.1.1.1
-    at _ ts b f = absurd (cc)
+    at _ ts b f = absurd (true≢false (sym b))
 
 pub each_mapped : (g : Node → Node) (ts : List Node) → ((t : Node) → Fits t (one class.ExportSpecifier) → specified (g t) ≡ specified t) → AllFit (one class.ExportSpecifier) ts → flat_map specified (map g ts) ≡ flat_map specified ts
 each_mapped g [] h f = refl

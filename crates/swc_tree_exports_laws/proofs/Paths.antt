@@ -1,5 +1,5 @@
 -- The references in export lists are what is exported so.
-use Rattle.std.proofs.Common.{◌≡◌, ℕ, zero, suc, Bool, true, false, not, IsTrue, inl, inr, ⊎_elim, Option, Some, None, List, [], ◌∷◌, ◌++◌, refl, sym, ap, ◌∙◌, subst, cond}
+use Rattle.std.proofs.Common.{◌≡◌, ℕ, zero, suc, Bool, true, false, not, IsTrue, inl, inr, ⊎_elim, Option, Some, None, List, [], ◌∷◌, ◌++◌, refl, sym, ap, ◌∙◌, subst, cond, true≢false}
 use Rattle.std.specs.List.{flat_map, list_all, slice_get}
 use Rattle.std.specs.Prelude.{unwrap_or, option_map}
 use Rattle.swc_tree_marks.specs.declared.ident.Ident.{Ident}
@@ -121,7 +121,7 @@ local_name n o f i env = of_class class.ModuleExportName (λ o. Fits o (one clas
     as_expression : (k : Kind) → IsTrue (belongs k class.ModuleExportName) → IsTrue (belongs k class.Expr)
     as_expression kind.Str b = refl
     as_expression kind.Ident b = refl
-    as_expression _ b = absurd (cc)
+    as_expression _ b = absurd (true≢false (sym b))
 
 abbrev Speaks : Node → Type 0
 Speaks u = (n there : Bool) (i : Ident) (env : List Entry) → In (refers i env) (S (P (cond there standing.Imported standing.Reference) n) u).sites → (there ≡ false) × In i (specified u)
@@ -132,7 +132,7 @@ speaks = of_class class.ExportSpecifier Speaks (λ k i a b. absurd (no_name k a 
     no_name : (k : Kind) → IsTrue (is_identifier k) → IsTrue (belongs k class.ExportSpecifier) → ⊥
     no_name kind.Ident a b = absurd (cc)
     no_name kind.BindingIdent a b = absurd (cc)
-    no_name _ a b = absurd (cc)
+    no_name _ a b = true≢false (sym a)
 
     named : (q o e : Node) → FieldsFit (slots_of kind.ExportNamedSpecifier) (q ∷ o ∷ e ∷ []) → Speaks (Tree kind.ExportNamedSpecifier (q ∷ o ∷ e ∷ []))
     named q o e f n true i env h =
@@ -165,7 +165,7 @@ speaks = of_class class.ExportSpecifier Speaks (λ k i a b. absurd (no_name k a 
     at kind.ExportNamespaceSpecifier [] b f = absurd f
     at kind.ExportNamespaceSpecifier (q ∷ []) b f = absurd f.1
     at kind.ExportNamespaceSpecifier (q ∷ o ∷ x ∷ ts) b f = absurd f.1.1
-    at _ ts b f = absurd (cc)
+    at _ ts b f = absurd (true≢false (sym b))
 
 -- ... of a list
 all_speak : (us : List Node) → AllFit (one class.ExportSpecifier) us → (n there : Bool) (i : Ident) (env : List Entry) → In (refers i env) (all (P (cond there standing.Imported standing.Reference) n) us).sites → (there ≡ false) × In i (flat_map specified us)
@@ -280,7 +280,7 @@ export_lists_are_listed = of_class class.Module AreListed (λ k i a b. absurd (n
     no_name : (k : Kind) → IsTrue (is_identifier k) → IsTrue (belongs k class.Module) → ⊥
     no_name kind.Ident a b = absurd (cc)
     no_name kind.BindingIdent a b = absurd (cc)
-    no_name _ a b = absurd (cc)
+    no_name _ a b = true≢false (sym a)
 
     at : (k : Kind) (ts : List Node) → IsTrue (belongs k class.Module) → FieldsFit (slots_of k) ts → AreListed (Tree k ts)
     at kind.Module [] b f = absurd f
@@ -290,4 +290,4 @@ export_lists_are_listed = of_class class.Module AreListed (λ k i a b. absurd (n
     at kind.Module (x ∷ y ∷ z ∷ []) b f =
         let l = as_list y (content.Node class.ModuleItem) f.1.0 in
         subst (λ y. FieldsFit (slots_of kind.Module) (x ∷ y ∷ z ∷ []) → AreListed (Tree kind.Module (x ∷ y ∷ z ∷ []))) (sym l.is) (λ f. are_listed x z l.items f l.fit) f
-    at _ ts b f = absurd (cc)
+    at _ ts b f = absurd (true≢false (sym b))

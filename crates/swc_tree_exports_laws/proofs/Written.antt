@@ -1,5 +1,5 @@
 -- What an item of a module exports, once it is written out, and the module.
-use Rattle.std.proofs.Common.{◌≡◌, Bool, true, false, IsTrue, ◌⊎◌, inl, inr, ⊎_elim, List, [], ◌∷◌, ◌++◌, map, refl, sym, ap, ◌∙◌, subst, cond, append_assoc}
+use Rattle.std.proofs.Common.{◌≡◌, Bool, true, false, IsTrue, ◌⊎◌, inl, inr, ⊎_elim, List, [], ◌∷◌, ◌++◌, map, refl, sym, ap, ◌∙◌, subst, cond, append_assoc, true≢false}
 use Rattle.std.specs.List.{flat_map, list_all}
 use Rattle.std.proofs.lemmas.List.{append-nil}
 use Rattle.swc_tree_marks.specs.declared.ident.Ident.{Ident}
@@ -253,7 +253,7 @@ written_out_exports t f = of_class class.Module (λ t. Fits t (one class.Module)
     no_name : (k : Kind) → IsTrue (is_identifier k) → IsTrue (belongs k class.Module) → ⊥
     no_name kind.Ident a b = absurd (cc)
     no_name kind.BindingIdent a b = absurd (cc)
-    no_name _ a b = absurd (cc)
+    no_name _ a b = true≢false (sym a)
 
     at : (k : Kind) (ts : List Node) → IsTrue (belongs k class.Module) → FieldsFit (slots_of k) ts → ModuleExports (Tree k ts)
     at kind.Module [] b f = absurd f
@@ -263,7 +263,7 @@ written_out_exports t f = of_class class.Module (λ t. Fits t (one class.Module)
     at kind.Module (x ∷ y ∷ z ∷ []) b f =
         let l = as_list y (content.Node class.ModuleItem) f.1.0 in
         subst (λ y. ModuleExports (Tree kind.Module (x ∷ y ∷ z ∷ []))) (sym l.is) (listed_exports x z l.items)
-    at _ ts b f = absurd (cc)
+    at _ ts b f = absurd (true≢false (sym b))
 
 each_stripped : (ts : List Node) → AllFit (one class.ModuleItem) ts → IsTrue (list_all all_bare ts) → lists (map stripped ts) ≡ lists ts
 each_stripped [] f b = refl
@@ -280,7 +280,7 @@ stripped_exports_the_same = of_class class.Module StripsExports (λ k i a b. abs
     no_name : (k : Kind) → IsTrue (is_identifier k) → IsTrue (belongs k class.Module) → ⊥
     no_name kind.Ident a b = absurd (cc)
     no_name kind.BindingIdent a b = absurd (cc)
-    no_name _ a b = absurd (cc)
+    no_name _ a b = true≢false (sym a)
 
     at : (k : Kind) (ts : List Node) → IsTrue (belongs k class.Module) → FieldsFit (slots_of k) ts → StripsExports (Tree k ts)
     at kind.Module [] b f = absurd f
@@ -295,4 +295,4 @@ stripped_exports_the_same = of_class class.Module StripsExports (λ k i a b. abs
         ap exported_locals (stripped_other kind.Module (x ∷ y ∷ z ∷ []) refl) ∙ exported_module (stripped x) (stripped y) (stripped z)
         ∙ ap (λ y. lists (items_of (stripped y))) l.is ∙ ap (λ t. lists (items_of t)) (stripped_of_list l.items) ∙ ap lists (items_of_list (map stripped l.items)) ∙ each_stripped l.items l.fit bare_items
         ∙ ap lists (sym (items_of_list l.items)) ∙ ap (λ y. lists (items_of y)) (sym l.is) ∙ sym (exported_module x y z)
-    at _ ts b f = absurd (cc)
+    at _ ts b f = absurd (true≢false (sym b))

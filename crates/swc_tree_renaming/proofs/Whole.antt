@@ -1,5 +1,5 @@
 -- A well-scoped module whose ids got texts apart is resolved to the same ids.
-use Rattle.std.proofs.Common.{inl, inr, ◌≡◌, ◌≢◌, ◌⊎◌, ℕ, Bool, true, false, IsTrue, Some, List, [], ◌∷◌, ◌++◌, map, length, drop, take, Contains, refl, sym, ap, ◌∙◌, subst, arith}
+use Rattle.std.proofs.Common.{inl, inr, ◌≡◌, ◌≢◌, ◌⊎◌, ℕ, Bool, true, false, IsTrue, Some, List, [], ◌∷◌, ◌++◌, map, length, drop, take, Contains, refl, sym, ap, ◌∙◌, subst, arith, true≢false}
 use Rattle.std.specs.Option.{option_map}
 use Rattle.std.proofs.lemmas.List.Elements.{Contains-append_right}
 use Rattle.std.proofs.lemmas.List.{append-nil}
@@ -38,10 +38,29 @@ id_name_apart i j e =
 pub id_name_same : (i j : Ident) → SameId i j → id_name i ≡ id_name j
 id_name_same i j (e, f) = ap (λ x. length x ∷ (x ++ i.ctxt)) e ∙ ap (λ c. length j.sym ∷ (j.sym ++ c)) f
 
+-- a test of a tree by its kind: the step that opens the tree comes before the cases, since it takes long and they are many
+stepped : (one test inner : Kind → Bool) → ((k : Kind) → IsTrue (test k) → IsTrue (inner k)) → ((k : Kind) → inner k ≡ one k) → (k : Kind) → IsTrue (test k) → IsTrue (one k)
+stepped one test inner step same k h = sym (same k) ∙ step k h
+
+abbrev is_module_kind : Kind → Bool
+is_module_kind kind.Module = true
+is_module_kind _ = false
+
+abbrev is_script_kind : Kind → Bool
+is_script_kind kind.Script = true
+is_script_kind _ = false
+
+module_alone : (k : Kind) → IsTrue (is_module_kind k) → k ≡ kind.Module
+module_alone kind.Module h = refl
+module_alone _ h = absurd (true≢false (sym h))
+
+script_alone : (k : Kind) → IsTrue (is_script_kind k) → k ≡ kind.Script
+script_alone kind.Script h = refl
+script_alone _ h = absurd (true≢false (sym h))
+
 -- a module's root
 module_kind : (k : Kind) (ts : List Node) → IsTrue (is_module (Tree k ts)) → k ≡ kind.Module
-module_kind kind.Module ts h = refl
-module_kind _ ts h = let g = rw (outs-Tree _ ts) at h in absurd (cc)
+module_kind k ts h = module_alone k (stepped is_module_kind (λ k. is_module (Tree k ts)) _ (λ k h. rw (outs-Tree k ts) at h) (elim [ kind.Module ↦ refl | _ ↦ refl ]) k h)
 
 pub module_layer : (t : Node) → IsTrue (is_module t) → (ts : List Node) × (out-Node t ≡ Node-F.Tree kind.Module ts)
 module_layer t h = at (out-Node t) refl
@@ -58,8 +77,7 @@ module_layer t h = at (out-Node t) refl
 
 -- a script's root
 script_kind : (k : Kind) (ts : List Node) → IsTrue (is_script (Tree k ts)) → k ≡ kind.Script
-script_kind kind.Script ts h = refl
-script_kind _ ts h = let g = rw (outs-Tree _ ts) at h in absurd (cc)
+script_kind k ts h = script_alone k (stepped is_script_kind (λ k. is_script (Tree k ts)) _ (λ k h. rw (outs-Tree k ts) at h) (elim [ kind.Script ↦ refl | _ ↦ refl ]) k h)
 
 pub script_layer : (t : Node) → IsTrue (is_script t) → (ts : List Node) × (out-Node t ≡ Node-F.Tree kind.Script ts)
 script_layer t h = at (out-Node t) refl

@@ -1,5 +1,5 @@
 -- What is made of each node of a tree leaves strict code strict, where it leaves directives.
-use Rattle.std.proofs.Common.{◌≡◌, ℕ, Bool, true, false, not, ◌&&◌, ◌||◌, IsTrue, Option, Some, None, List, [], ◌∷◌, map, refl, sym, ap, ◌∙◌}
+use Rattle.std.proofs.Common.{◌≡◌, ℕ, Bool, true, false, not, ◌&&◌, ◌||◌, IsTrue, Option, Some, None, List, [], ◌∷◌, map, refl, sym, ap, ◌∙◌, true≢false}
 use Rattle.std.specs.List.{slice_get}
 use Rattle.std.specs.Prelude.{option_map}
 use Rattle.std.proofs.lemmas.Option.{slice_get-map}
@@ -60,6 +60,9 @@ loose_more false true n x y f h = refl
 loose_more false false true x y f h = f h
 loose_more false false false x y f h = h
 
+nothing_there : {A : Type 0} {x : A} → None ≡ Some x → ⊥
+nothing_there e = absurd (cc)
+
 -- `f` makes a list, a text or a flag of one, and leaves those kinds
 module _ (f : Node → Node) (lists : (ts : List Node) → f (Many ts) ≡ Many (map f ts)) (texts : (x : List ℕ) → f (Text x) ≡ Text x) (flags : (x : Bool) → f (Flag x) ≡ Flag x)
     (codes : (k : Kind) (ts : List Node) → is_code k ≡ true → f (Tree k ts) ≡ Tree k (map f ts)) where
@@ -77,7 +80,7 @@ module _ (f : Node → Node) (lists : (ts : List Node) → f (Many ts) ≡ Many 
       ap (λ t. literal_in (out-Node (f t))) e ∙ ap (λ t. literal_in (out-Node t)) (codes kind.Str ts refl) ∙ ap literal_in (outs-Tree kind.Str (map f ts)) ∙ ap text_of (slice_get-map f ts str.VALUE)
       ∙ text_of_up (slice_get ts str.VALUE) x h
   literal_row t kind.Module ts e x h = absurd (cc)
-  literal_row t _ ts e x h = absurd (cc)
+  literal_row t _ ts e x h = absurd (nothing_there h)
 
   literal_up : (t : Node) (y : Node-F Node) → out-Node t ≡ y → (x : List ℕ) → literal_in y ≡ Some x → literal_in (out-Node (f t)) ≡ Some x
   literal_up t (Node-F.Tree k ts) o x h = literal_row t k ts (tree_is t k ts o) x h
@@ -93,7 +96,7 @@ module _ (f : Node → Node) (lists : (ts : List Node) → f (Many ts) ≡ Many 
       ap (λ t. string_of (f t)) e ∙ ap string_of (codes kind.ExprStmt ts refl) ∙ ap statement_in (outs-Tree kind.ExprStmt (map f ts)) ∙ ap literal_of (slice_get-map f ts expr_stmt.EXPR)
       ∙ literal_of_up (slice_get ts expr_stmt.EXPR) x h
   statement_row t kind.Module ts e x h = absurd (cc)
-  statement_row t _ ts e x h = absurd (cc)
+  statement_row t _ ts e x h = absurd (nothing_there h)
 
   statement_up : (t : Node) (y : Node-F Node) → out-Node t ≡ y → (x : List ℕ) → statement_in y ≡ Some x → string_of (f t) ≡ Some x
   statement_up t (Node-F.Tree k ts) o x h = statement_row t k ts (tree_is t k ts o) x h
@@ -125,7 +128,7 @@ module _ (f : Node → Node) (lists : (ts : List Node) → f (Many ts) ≡ Many 
       ap (λ t. has_use_strict (block_in (out-Node (f t)))) e ∙ ap (λ t. has_use_strict (block_in (out-Node t))) (codes kind.BlockStmt ts refl) ∙ ap (λ y. has_use_strict (block_in y)) (outs-Tree kind.BlockStmt (map f ts))
       ∙ ap (λ o. has_use_strict (items_of o)) (slice_get-map f ts block_stmt.STMTS) ∙ items_of_up (slice_get ts block_stmt.STMTS) h
   block_row t kind.Module ts e h = absurd (cc)
-  block_row t _ ts e h = absurd (cc)
+  block_row t _ ts e h = absurd (true≢false (sym h))
 
   block_up : (t : Node) (y : Node-F Node) → out-Node t ≡ y → has_use_strict (block_in y) ≡ true → has_use_strict (block_in (out-Node (f t))) ≡ true
   block_up t (Node-F.Tree k ts) o h = block_row t k ts (tree_is t k ts o) h
@@ -148,7 +151,7 @@ module _ (f : Node → Node) (lists : (ts : List Node) → f (Many ts) ≡ Many 
   strict_up kind.Constructor ts h = body_up ts constructor.BODY h
   strict_up kind.GetterProp ts h = body_up ts getter_prop.BODY h
   strict_up kind.SetterProp ts h = body_up ts setter_prop.BODY h
-  strict_up _ ts h = absurd (cc)
+  strict_up _ ts h = absurd (true≢false (sym h))
 
   -- functions
   flag_up : (t : Node) (y : Node-F Node) → out-Node t ≡ y → flag_in y ≡ true → flag_in (out-Node (f t)) ≡ true
@@ -169,12 +172,12 @@ module _ (f : Node → Node) (lists : (ts : List Node) → f (Many ts) ≡ Many 
       ∙ plain_more (flag_of (slice_get ts function.IS_GENERATOR)) (flag_of (slice_get ts function.IS_ASYNC)) (flag_of (slice_get (map f ts) function.IS_GENERATOR)) (flag_of (slice_get (map f ts) function.IS_ASYNC))
       (held_up ts function.IS_GENERATOR) (held_up ts function.IS_ASYNC) (sym (ap (λ t. plain_in (out-Node t)) (codes kind.Function ts refl) ∙ ap plain_in (outs-Tree kind.Function (map f ts))) ∙ h)
   plain_row kind.Module ts b h = absurd (cc)
-  plain_row _ ts b h = absurd (cc)
+  plain_row _ ts b h = absurd (true≢false (sym b))
 
   no_function : (k : Kind) → IsTrue (is_identifier k) → IsTrue (belongs k class.Function) → ⊥
   no_function kind.Ident a b = absurd (cc)
   no_function kind.BindingIdent a b = absurd (cc)
-  no_function _ a b = absurd (cc)
+  no_function _ a b = true≢false (sym a)
 
   plain_down : (t : Node) → Fits t (one class.Function) → plain_in (out-Node (f t)) ≡ true → plain_in (out-Node t) ≡ true
   plain_down t fit = only_node class.Function (λ t. plain_in (out-Node (f t)) ≡ true → plain_in (out-Node t) ≡ true) (λ k i a b h. absurd (no_function k a b)) (λ k ts b g x h. plain_row k ts b h) t fit

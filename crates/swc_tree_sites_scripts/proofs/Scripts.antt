@@ -1,6 +1,6 @@
 -- A script and the module of its items: what is stripped, written out or set in the one is in the other, and where the
 -- script is settled, its names are the module's.
-use Rattle.std.proofs.Common.{◌≡◌, true, false, IsTrue, Some, List, [], ◌∷◌, ◌++◌, map, refl, sym, ap, ◌∙◌, subst}
+use Rattle.std.proofs.Common.{◌≡◌, true, false, IsTrue, Some, List, [], ◌∷◌, ◌++◌, map, refl, sym, ap, ◌∙◌, subst, true≢false}
 use Rattle.std.specs.List.{flat_map}
 use Rattle.swc_tree_marks.specs.declared.ident.Ident.{Ident}
 use Rattle.swc_tree_node.specs.declared.kind.Kind.{Kind}
@@ -62,7 +62,7 @@ opens = only_node class.Script Opened (λ k i a b. absurd (no_name k a b)) (λ k
     no_name : (k : Kind) → IsTrue (is_identifier k) → IsTrue (belongs k class.Script) → ⊥
     no_name kind.Ident a b = absurd (cc)
     no_name kind.BindingIdent a b = absurd (cc)
-    no_name _ a b = absurd (cc)
+    no_name _ a b = true≢false (sym a)
 
     tree : (k : Kind) (ts : List Node) → IsTrue (belongs k class.Script) → FieldsFit (slots_of k) ts → Opened (Tree k ts)
     tree kind.Script [] b f = absurd f
@@ -70,7 +70,7 @@ opens = only_node class.Script Opened (λ k i a b. absurd (no_name k a b)) (λ k
     tree kind.Script (x ∷ y ∷ []) b f = absurd f.1.1
     tree kind.Script (x ∷ y ∷ z ∷ v ∷ ts) b f = absurd f.1.1.1
     tree kind.Script (x ∷ y ∷ z ∷ []) b f = record { script = record { span = x; body = y; shebang = z; is = refl }; fields = f }
-    tree _ ts b f = absurd (cc)
+    tree _ ts b f = absurd (true≢false (sym b))
 
 pub script_is : (t : Node) → Fits t script_place → IsScript t
 script_is t f = (opens t f).script

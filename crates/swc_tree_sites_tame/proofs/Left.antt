@@ -1,5 +1,5 @@
 -- A statement that may be the body of a loop or a branch leaves nothing that a block takes.
-use Rattle.std.proofs.Common.{◌≡◌, ◌≢◌, ℕ, zero, suc, ◌==◌, ◌⊎◌, Bool, true, false, not, ◌&&◌, ◌||◌, IsTrue, ⊎_elim, inl, inr, Some, None, Option, List, [], ◌∷◌, ◌++◌, map, refl, sym, ap, ◌∙◌, subst, cond}
+use Rattle.std.proofs.Common.{◌≡◌, ◌≢◌, ℕ, zero, suc, ◌==◌, ◌⊎◌, Bool, true, false, not, ◌&&◌, ◌||◌, IsTrue, ⊎_elim, inl, inr, Some, None, Option, List, [], ◌∷◌, ◌++◌, map, refl, sym, ap, ◌∙◌, subst, cond, true≢false}
 use Rattle.std.specs.List.{filter, list_all, slice_get}
 use Rattle.swc_tree_marks.specs.declared.ident.Ident.{Ident}
 use Rattle.swc_tree_node.specs.declared.kind.Kind.{Kind}
@@ -372,11 +372,11 @@ catch_left ts p n = scope_left scope.Catch kind.CatchClause ts p n refl catch_vi
 
 block_kind : (k : Kind) (ts : List Node) (p : Standing) (n : Bool) → is_spot p ≡ true → IsTrue (belongs k class.BlockStmt) → Loose (S (P p n) (Tree k ts))
 block_kind kind.BlockStmt ts p n h b = block_left ts p n h
-block_kind _ ts p n h b = absurd (cc)
+block_kind _ ts p n h b = absurd (true≢false (sym b))
 
 catch_kind : (k : Kind) (ts : List Node) (p : Standing) (n : Bool) → IsTrue (belongs k class.CatchClause) → Loose (S (P p n) (Tree k ts))
 catch_kind kind.CatchClause ts p n b = catch_left ts p n
-catch_kind _ ts p n b = absurd (cc)
+catch_kind _ ts p n b = absurd (true≢false (sym b))
 
 some_block : (p : Standing) (n : Bool) (t : Node) → is_spot p ≡ true → Fits t (slot.Optional (content.Node class.BlockStmt)) → Loose (S (P p n) t)
 some_block p n t h = cases (P p n) (slot.Optional (content.Node class.BlockStmt)) (λ t. Loose (S (P p n) t)) (λ t e. ap (λ (a : Sites). loose a.pending) e) (λ k i f. name_left p n k i (spot_inert p h))
@@ -528,7 +528,12 @@ row kind.VarDecl (more {t = x} f _ (more {t = y} g _ (more {t = z} i _ none))) p
 row kind.FnDecl (more _ _ (more {t = y} _ _ none)) p n s a q b h e m = absurd (no_function (is_plain_function (Some y)) b)
 row kind.ClassDecl d p n s a q b h e m = absurd (cc)
 row kind.UsingDecl d p n s a q b h e m = absurd (cc)
-row _ d p n s a q b h e m = absurd (cc)
+row kind.TsInterfaceDecl d p n s a q b h e m = absurd (cc)
+row kind.TsTypeAliasDecl d p n s a q b h e m = absurd (cc)
+row kind.TsEnumDecl d p n s a q b h e m = absurd (cc)
+row kind.TsModuleDecl d p n s a q b h e m = absurd (cc)
+-- no other kind is a statement: said by name, since `cc` would look at all that is known of each
+row _ d p n s a q b h e m = absurd (true≢false (sym e))
 
 tree_leaves : (k : Kind) (ts : List Node) → Each Leaves ts → Leaves (Tree k ts)
 tree_leaves k ts l p n s a q f m h =
