@@ -1,5 +1,5 @@
 -- What stripping makes of trees that are the same but for the kinds of the names `async` is the same but for these.
-use Rattle.std.proofs.Common.{◌≡◌, Bool, true, false, not, List, [], ◌∷◌, ◌++◌, refl, sym, ap, ◌∙◌, rules}
+use Rattle.std.proofs.Common.{◌≡◌, Bool, true, false, not, List, [], ◌∷◌, ◌++◌, refl, sym, ap, ◌∙◌, subst, rules}
 use Rattle.std.specs.Prelude.{IsTrue, take, if◌then◌else◌}
 use Rattle.std.specs.List.{flat_map, filter, list_all}
 use Rattle.swc_tree_marks.specs.declared.ident.Ident.{Ident}
@@ -212,11 +212,19 @@ target_list ts = search (rules, the_lemmas)
 target_name : (k : Kind) (i : Ident) → target (Identifier k i) ≡ target_in (Identifier k i) (Node-F.Identifier k i)
 target_name k i = search (rules, the_lemmas)
 
+-- by one kind at a time: both at once have some 10,000 cases
+abbrev target_kind : Kind → Kind
+target_kind kind.Ident = kind.BindingIdent
+target_kind k = k
+
+target_of : (k : Kind) (i : Ident) → target_in (Identifier k i) (Node-F.Identifier k i) ≡ Identifier (target_kind k) i
+target_of kind.Ident i = refl
+target_of _ i = refl
+
 target_row : (k l : Kind) (i : Ident) → IsTrue (is_async_name (Identifier kind.Ident i)) → Alike (target_in (Identifier k i) (Node-F.Identifier k i)) (target_in (Identifier l i) (Node-F.Identifier l i))
-target_row kind.Ident kind.Ident i called = same (Identifier kind.BindingIdent i)
-target_row kind.Ident l i called = name kind.BindingIdent l i called
-target_row k kind.Ident i called = name k kind.BindingIdent i called
-target_row k l i called = name k l i called
+target_row k l i called =
+    subst (λ t. Alike t (target_in (Identifier l i) (Node-F.Identifier l i))) (sym (target_of k i))
+    (subst (Alike (Identifier (target_kind k) i)) (sym (target_of l i)) (name (target_kind k) (target_kind l) i called))
 
 target_alike : {t u : Node} → Alike t u → Alike (target t) (target u)
 target_alike (same t) = same (target t)

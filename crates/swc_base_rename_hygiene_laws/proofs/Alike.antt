@@ -78,11 +78,18 @@ keywords_rest : (ts : List Node) → rest (by_keyword ts) ≡ standing.Plain
 keywords_rest [] = refl
 keywords_rest (t ∷ ts) = keyword_rest (out-Node t) (by_keyword ts) (keywords_rest ts)
 
+-- by the standing alone, then by the kind: both at once have some 2,500 cases
+own_rest_of_default : (k : Kind) → rest (own_name standing.DefaultExport k) ≡ standing.Plain
+own_rest_of_default kind.FnExpr = refl
+own_rest_of_default _ = refl
+
+own_rest_of_expression : (k : Kind) → rest (own_name standing.Plain k) ≡ standing.Plain
+own_rest_of_expression kind.FnExpr = refl
+own_rest_of_expression _ = refl
+
 own_rest : (r : Standing) (k : Kind) → rest (own_name r k) ≡ standing.Plain
-own_rest standing.DefaultExport kind.FnExpr = refl
-own_rest standing.DefaultExport _ = refl
-own_rest _ kind.FnExpr = refl
-own_rest _ _ = refl
+own_rest standing.DefaultExport k = own_rest_of_default k
+own_rest _ k = own_rest_of_expression k
 
 pub list_rest : (b : Bool) → rest (cond b standing.Imported standing.Reference) ≡ standing.Plain
 list_rest true = refl

@@ -83,11 +83,18 @@ keywords : (ts : List Node) → is_sloppy (by_keyword ts) ≡ false
 keywords [] = refl
 keywords (t ∷ ts) = keyword (out-Node t) (by_keyword ts) (keywords ts)
 
+-- by the standing alone, then by the kind: both at once have some 2,500 cases
+own_names_of_default : (k : Kind) → is_sloppy (own_name standing.DefaultExport k) ≡ false
+own_names_of_default kind.FnExpr = refl
+own_names_of_default _ = refl
+
+own_names_of_expression : (k : Kind) → is_sloppy (own_name standing.Plain k) ≡ false
+own_names_of_expression kind.FnExpr = refl
+own_names_of_expression _ = refl
+
 own_names : (r : Standing) (k : Kind) → is_sloppy (own_name r k) ≡ false
-own_names standing.DefaultExport kind.FnExpr = refl
-own_names standing.DefaultExport _ = refl
-own_names _ kind.FnExpr = refl
-own_names _ _ = refl
+own_names standing.DefaultExport k = own_names_of_default k
+own_names _ k = own_names_of_expression k
 
 plains : (k : Kind) (i : ℕ) → is_sloppy (plain_standing k i) ≡ false
 plains kind.IfStmt i = chosen _ standing.Branch standing.Plain refl refl

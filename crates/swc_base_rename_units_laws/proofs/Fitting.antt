@@ -80,11 +80,18 @@ keyword_not (t ∷ ts) = by (out-Node t) (keyword_not ts)
     by Node-F.Absent h = h
     by _ h = h
 
+-- by the standing alone, then by the kind: both at once have some 2,500 cases
+own_not_of_default : (k : Kind) → is_default_export (own_name standing.DefaultExport k) ≡ false
+own_not_of_default kind.FnExpr = refl
+own_not_of_default _ = refl
+
+own_not_of_expression : (k : Kind) → is_default_export (own_name standing.Plain k) ≡ false
+own_not_of_expression kind.FnExpr = refl
+own_not_of_expression _ = refl
+
 own_not : (r : Standing) (k : Kind) → is_default_export (own_name r k) ≡ false
-own_not standing.DefaultExport kind.FnExpr = refl
-own_not standing.DefaultExport _ = refl
-own_not _ kind.FnExpr = refl
-own_not _ _ = refl
+own_not standing.DefaultExport k = own_not_of_default k
+own_not _ k = own_not_of_expression k
 
 pub part_default : (r : Standing) (o : Option Node) → is_default_export (part_standing r o) ≡ true → is_default_export r ≡ true
 part_default r o h = by (binds_patterns r && is_identifier_expression o) h

@@ -168,11 +168,18 @@ exported_default : (a : Bool) → is_default (cond a standing.Imported standing.
 exported_default true h = absurd (cc)
 exported_default false h = absurd (cc)
 
+-- by the standing alone, then by the kind: both at once have some 2,500 cases
+name_default_of_default : (k : Kind) → is_default (own_name standing.DefaultExport k) ≡ true → ⊥
+name_default_of_default kind.FnExpr h = absurd (cc)
+name_default_of_default _ h = absurd (cc)
+
+name_default_of_expression : (k : Kind) → is_default (own_name standing.Plain k) ≡ true → ⊥
+name_default_of_expression kind.FnExpr h = absurd (cc)
+name_default_of_expression _ h = absurd (cc)
+
 name_default : (k : Kind) (s : Standing) → is_default (own_name s k) ≡ true → ⊥
-name_default kind.FnExpr standing.DefaultExport h = absurd (cc)
-name_default kind.FnExpr _ h = absurd (cc)
-name_default _ standing.DefaultExport h = absurd (cc)
-name_default _ _ h = absurd (cc)
+name_default k standing.DefaultExport h = name_default_of_default k h
+name_default k _ h = name_default_of_expression k h
 
 plain_default : (k : Kind) (i : ℕ) → is_default (plain_standing k i) ≡ true → (leaves_kind k).any ≡ true
 plain_default kind.IfStmt i h = at (i == 2 || i == 3) h

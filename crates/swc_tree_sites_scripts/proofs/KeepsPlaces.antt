@@ -116,16 +116,18 @@ function_mark true b = refl
 function_mark false true = refl
 function_mark false false = refl
 
+-- by the standing alone, then by the kind: both at once have some 2,500 cases
+name_mark_of_default : (k : Kind) → mark (own_name standing.DefaultExport k) ≡ None
+name_mark_of_default kind.FnExpr = refl
+name_mark_of_default _ = refl
+
+name_mark_of_expression : (k : Kind) → mark (own_name standing.Plain k) ≡ None
+name_mark_of_expression kind.FnExpr = refl
+name_mark_of_expression _ = refl
+
 name_mark : (p : Standing) (k : Kind) → mark (own_name p k) ≡ None
-name_mark standing.DefaultExport kind.FnExpr = refl
-name_mark standing.DefaultExport kind.Module = refl
-name_mark standing.DefaultExport _ = refl
-name_mark standing.Plain kind.FnExpr = refl
-name_mark standing.Plain kind.Module = refl
-name_mark standing.Plain _ = refl
-name_mark _ kind.FnExpr = refl
-name_mark _ kind.Module = refl
-name_mark _ _ = refl
+name_mark standing.DefaultExport k = name_mark_of_default k
+name_mark _ k = name_mark_of_expression k
 
 local_mark : (b : Bool) → mark (cond b standing.Imported standing.Reference) ≡ None
 local_mark true = refl

@@ -181,11 +181,18 @@ function_branch true b h = absurd (cc)
 function_branch false true h = absurd (cc)
 function_branch false false h = absurd (cc)
 
+-- by the standing alone, then by the kind: both at once have some 2,500 cases
+own_branch_of_default : (k : Kind) → is_branch (own_name standing.DefaultExport k) ≡ true → ⊥
+own_branch_of_default kind.FnExpr h = absurd (cc)
+own_branch_of_default _ h = absurd (cc)
+
+own_branch_of_expression : (k : Kind) → is_branch (own_name standing.Plain k) ≡ true → ⊥
+own_branch_of_expression kind.FnExpr h = absurd (cc)
+own_branch_of_expression _ h = absurd (cc)
+
 own_branch : (r : Standing) (k : Kind) → is_branch (own_name r k) ≡ true → ⊥
-own_branch standing.DefaultExport kind.FnExpr h = absurd (cc)
-own_branch standing.DefaultExport _ h = absurd (cc)
-own_branch _ kind.FnExpr h = absurd (cc)
-own_branch _ _ h = absurd (cc)
+own_branch standing.DefaultExport k h = own_branch_of_default k h
+own_branch _ k h = own_branch_of_expression k h
 
 list_branch : (b : Bool) → is_branch (cond b standing.Imported standing.Reference) ≡ true → ⊥
 list_branch true h = absurd (cc)
