@@ -4,7 +4,8 @@ proof_costs.py --lemmas [--keep FOLDER] CRATE: the same of the files of lemmas i
 
 The crates that it stands on are proved first, lowest first (FOLDER keeps them, as `crate_costs.py --keep` does), then the crate itself from
 nothing, in a folder of its own, by one job of `rt check`. That prints a line as each function's proof ends: told are the seconds by the
-clock since the line before. A cycle's functions end together, so what all of them take may stand before the first.
+clock since the line before; before the first a check also loads libraries. A cycle's functions end together, so what all of them take may
+stand before the first of them.
 
 With --lemmas the functions are left out and the files of lemmas come in one after another, each behind those that it cites, with a check
 after each: told are the seconds of a processor that it takes more than a check with nothing new. That is for crates whose lemmas speak of
