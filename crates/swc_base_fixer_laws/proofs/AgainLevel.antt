@@ -1,5 +1,5 @@
 -- The first step of the due pairs after a change of spans or of names before `of` is the change after the step.
-use Rattle.std.proofs.Common.{◌≡◌, ℕ, Bool, true, false, not, ◌||◌, List, [], ◌∷◌, map, refl, sym, ap, ◌∙◌, rules}
+use Rattle.std.proofs.Common.{◌≡◌, ℕ, Bool, true, false, not, ◌||◌, List, [], ◌∷◌, map, refl, sym, ap, ◌∙◌, rules, true≢false}
 use Rattle.std.specs.Prelude.{if◌then◌else◌}
 use Rattle.swc_tree_node.specs.declared.kind.Kind.{Kind}
 use Rattle.swc_tree_node.specs.declared.kind.Kind.TheVariants as kind
@@ -68,7 +68,7 @@ module _ {f : Node → Node} {fs : Kind → List Node → List Node} (m : Mapped
   pair_of : (k : Kind) (us : List Node) → is_changed k ≡ true → (r : Places) → call_paired r (Tree k us) ≡ pair r (Tree k us)
   pair_of kind.IfStmt us e r = paired_of r kind.IfStmt us
   pair_of kind.ForOfStmt us e r = paired_of r kind.ForOfStmt us
-  pair_of k us e r = absurd (cc)
+  pair_of k us e r = absurd (true≢false (sym e))
 
   called_tree : (b : Bool) (k : Kind) (ts : List Node) → is_changed k ≡ b → Each Called ts → Called (Tree k ts)
   called_tree true k ts e l = ap (call_paired q) (m.tree k ts) ∙ pair_of k (fs k (map f ts)) e q ∙ ap (pair q) (sym (m.tree k ts)) ∙ sym (moved (Tree k ts)) ∙ ap f (sym (pair_of k ts e p))
@@ -100,7 +100,7 @@ module _ {f : Node → Node} {fs : Kind → List Node → List Node} (m : Mapped
   key_stays : (k : Kind) (us : List Node) → is_changed k ≡ true → (r : Places) → key_in r (Tree k us) (Node-F.Tree k us) ≡ Tree k us
   key_stays kind.IfStmt us e r = refl
   key_stays kind.ForOfStmt us e r = refl
-  key_stays k us e r = absurd (cc)
+  key_stays k us e r = absurd (true≢false (sym e))
 
   key_tree : (b : Bool) (k : Kind) (ts : List Node) → is_changed k ≡ b → Keyed (Tree k ts)
   key_tree true k ts e =
@@ -179,7 +179,7 @@ module _ {f : Node → Node} {fs : Kind → List Node → List Node} (m : Mapped
   sequence_stays : (k : Kind) (us : List Node) → is_changed k ≡ true → (r : Places) → sequence_statement r (Tree k us) (Node-F.Tree k us) ≡ Tree k us
   sequence_stays kind.IfStmt us e r = refl
   sequence_stays kind.ForOfStmt us e r = refl
-  sequence_stays k us e r = absurd (cc)
+  sequence_stays k us e r = absurd (true≢false (sym e))
 
   sequence_tree : (b : Bool) (k : Kind) (ts : List Node) → is_changed k ≡ b → Sequenced (Tree k ts)
   sequence_tree true k ts e =
@@ -220,7 +220,7 @@ module _ {f : Node → Node} {fs : Kind → List Node → List Node} (m : Mapped
   step_changed : (r : Places) (b : Bool) (k : Kind) (us : List Node) → is_changed k ≡ true → level_step r (Node-F.Tree k (map (pairing r) us)) b ≡ Tree k (asked r b k (stepped r us))
   step_changed r b kind.IfStmt us e = refl
   step_changed r b kind.ForOfStmt us e = refl
-  step_changed r b k us e = absurd (cc)
+  step_changed r b k us e = absurd (true≢false (sym e))
 
   level_tree : Leaves fs q → (c : Bool) (k : Kind) (ts : List Node) → is_changed k ≡ c → Each Levelled ts → Levelled (Tree k ts)
   level_tree w true k ts n l b =

@@ -1,5 +1,5 @@
 -- What the due pairs are decided by stays where spans and names before `of` alone change.
-use Rattle.std.proofs.Common.{◌≡◌, ℕ, Bool, true, false, ◌&&◌, List, [], ◌∷◌, map, refl, sym, ap, ◌∙◌, rules}
+use Rattle.std.proofs.Common.{◌≡◌, ℕ, Bool, true, false, ◌&&◌, List, [], ◌∷◌, map, refl, sym, ap, ◌∙◌, rules, true≢false}
 use Rattle.std.specs.Prelude.{Option, if◌then◌else◌}
 use Rattle.std.specs.List.{list_all}
 use Rattle.swc_tree_node.specs.declared.kind.Kind.{Kind}
@@ -42,7 +42,7 @@ module _ {f : Node → Node} {fs : Kind → List Node → List Node} (m : Mapped
   called_changed : (k : Kind) (us ts : List Node) → is_changed k ≡ true → is_called (Tree k us) ≡ is_called (Tree k ts)
   called_changed kind.IfStmt us ts e = called_of_tree kind.IfStmt us ∙ sym (called_of_tree kind.IfStmt ts)
   called_changed kind.ForOfStmt us ts e = called_of_tree kind.ForOfStmt us ∙ sym (called_of_tree kind.ForOfStmt ts)
-  called_changed k us ts e = absurd (cc)
+  called_changed k us ts e = absurd (true≢false (sym e))
 
   called_tree : (b : Bool) (k : Kind) (ts : List Node) → is_changed k ≡ b → Each (λ t. is_called (f t) ≡ is_called t) ts → is_called (f (Tree k ts)) ≡ is_called (Tree k ts)
   called_tree true k ts e l = ap is_called (m.tree k ts) ∙ called_changed k (fs k (map f ts)) ts e
@@ -67,7 +67,7 @@ module _ {f : Node → Node} {fs : Kind → List Node → List Node} (m : Mapped
   level_changed : (k : Kind) (us ts : List Node) → is_changed k ≡ true → level_in (Node-F.Tree k us) ≡ level_in (Node-F.Tree k ts)
   level_changed kind.IfStmt us ts e = refl
   level_changed kind.ForOfStmt us ts e = refl
-  level_changed k us ts e = absurd (cc)
+  level_changed k us ts e = absurd (true≢false (sym e))
 
   level_mapped : (t : Node) → level (f t) ≡ level t
   level_mapped t = look m ℕ level_in (λ s r. refl) (λ k i. refl) (λ ts. refl) level_row level_changed t
@@ -82,7 +82,7 @@ module _ {f : Node → Node} {fs : Kind → List Node → List Node} (m : Mapped
   bare_changed : (k : Kind) (us ts : List Node) → is_changed k ≡ true → bare_new_in (Node-F.Tree k us) ≡ bare_new_in (Node-F.Tree k ts)
   bare_changed kind.IfStmt us ts e = refl
   bare_changed kind.ForOfStmt us ts e = refl
-  bare_changed k us ts e = absurd (cc)
+  bare_changed k us ts e = absurd (true≢false (sym e))
 
   bare_mapped : (t : Node) → is_bare_new (f t) ≡ is_bare_new t
   bare_mapped t = look m Bool bare_new_in (λ s r. refl) (λ k i. refl) (λ ts. refl) bare_row bare_changed t
@@ -94,7 +94,7 @@ module _ {f : Node → Node} {fs : Kind → List Node → List Node} (m : Mapped
   nullish_changed : (k : Kind) (us ts : List Node) → is_changed k ≡ true → nullish_in (Node-F.Tree k us) ≡ nullish_in (Node-F.Tree k ts)
   nullish_changed kind.IfStmt us ts e = refl
   nullish_changed kind.ForOfStmt us ts e = refl
-  nullish_changed k us ts e = absurd (cc)
+  nullish_changed k us ts e = absurd (true≢false (sym e))
 
   nullish_mapped : (t : Node) → is_nullish (f t) ≡ is_nullish t
   nullish_mapped t = look m Bool nullish_in (λ s r. refl) (λ k i. refl) (λ ts. refl) nullish_row nullish_changed t
@@ -106,7 +106,7 @@ module _ {f : Node → Node} {fs : Kind → List Node → List Node} (m : Mapped
   key_changed : (k : Kind) (us ts : List Node) → is_changed k ≡ true → key_in (Node-F.Tree k us) ≡ key_in (Node-F.Tree k ts)
   key_changed kind.IfStmt us ts e = refl
   key_changed kind.ForOfStmt us ts e = refl
-  key_changed k us ts e = absurd (cc)
+  key_changed k us ts e = absurd (true≢false (sym e))
 
   pub meets_mapped : (d : Demand) (t : Node) → meets d (f t) ≡ meets d t
   meets_mapped Any t = refl
@@ -163,7 +163,7 @@ module _ {f : Node → Node} {fs : Kind → List Node → List Node} (m : Mapped
   assigns_changed : (x : Kind → Bool) (k : Kind) (us ts : List Node) → is_changed k ≡ true → assigns_in x (Node-F.Tree k us) ≡ assigns_in x (Node-F.Tree k ts)
   assigns_changed x kind.IfStmt us ts e = refl
   assigns_changed x kind.ForOfStmt us ts e = refl
-  assigns_changed x k us ts e = absurd (cc)
+  assigns_changed x k us ts e = absurd (true≢false (sym e))
 
   assigns_mapped : (x : Kind → Bool) (t : Node) → assigns_to x (f t) ≡ assigns_to x t
   assigns_mapped x t = look m Bool (assigns_in x) (λ s r. refl) (λ k i. refl) (λ ts. refl) (assigns_row x) (assigns_changed x) t
@@ -175,7 +175,7 @@ module _ {f : Node → Node} {fs : Kind → List Node → List Node} (m : Mapped
   unary_changed : (k : Kind) (us ts : List Node) → is_changed k ≡ true → unary_word_in (Node-F.Tree k us) ≡ unary_word_in (Node-F.Tree k ts)
   unary_changed kind.IfStmt us ts e = refl
   unary_changed kind.ForOfStmt us ts e = refl
-  unary_changed k us ts e = absurd (cc)
+  unary_changed k us ts e = absurd (true≢false (sym e))
 
   unary_mapped : (t : Node) → unary_word_in (out-Node (f t)) ≡ unary_word_in (out-Node t)
   unary_mapped t = look m (Option Word') unary_word_in (λ s r. refl) (λ k i. refl) (λ ts. refl) unary_row unary_changed t

@@ -1,5 +1,5 @@
 -- Functions on trees that change spans, names and some fields alone: what is seen of a node stays.
-use Rattle.std.proofs.Common.{◌≡◌, ℕ, Bool, true, false, not, ◌&&◌, List, [], ◌∷◌, map, refl, sym, ap, ◌∙◌, rules}
+use Rattle.std.proofs.Common.{◌≡◌, ℕ, Bool, true, false, not, ◌&&◌, List, [], ◌∷◌, map, refl, sym, ap, ◌∙◌, rules, true≢false}
 use Rattle.std.specs.List.{list_all}
 use Rattle.swc_tree_marks.specs.declared.span.Span.{Span as Range}
 use Rattle.swc_tree_marks.specs.declared.ident.Ident.{Ident}
@@ -105,7 +105,7 @@ single_row f k ts = refl
 single_changed : (k : Kind) (us ts : List Node) → is_changed k ≡ true → single_in (Node-F.Tree k us) ≡ single_in (Node-F.Tree k ts)
 single_changed kind.IfStmt us ts e = refl
 single_changed kind.ForOfStmt us ts e = refl
-single_changed k us ts e = absurd (cc)
+single_changed k us ts e = absurd (true≢false (sym e))
 
 single_mapped : {f : Node → Node} {fs : Kind → List Node → List Node} (m : Mapped f fs) (t : Node) → single (f t) ≡ single t
 single_mapped {f = f} m t = look m Bool single_in (λ s r. refl) (λ k i. refl) (λ ts. refl) (single_row f) single_changed t
@@ -118,7 +118,7 @@ loose_row m k ts = refl
 loose_changed : (k : Kind) (us ts : List Node) → is_changed k ≡ true → loose_in (Node-F.Tree k us) ≡ loose_in (Node-F.Tree k ts)
 loose_changed kind.IfStmt us ts e = refl
 loose_changed kind.ForOfStmt us ts e = refl
-loose_changed k us ts e = absurd (cc)
+loose_changed k us ts e = absurd (true≢false (sym e))
 
 loose_mapped : {f : Node → Node} {fs : Kind → List Node → List Node} (m : Mapped f fs) (t : Node) → loose (f t) ≡ loose t
 loose_mapped m t = look m Bool loose_in (λ s r. refl) (λ k i. refl) (λ ts. refl) (loose_row m) loose_changed t
@@ -168,7 +168,7 @@ still_row m k ts = refl
 still_changed : (k : Kind) (us : List Node) → is_changed k ≡ true → still_in (Node-F.Tree k us) ≡ true
 still_changed kind.IfStmt us e = refl
 still_changed kind.ForOfStmt us e = refl
-still_changed k us e = absurd (cc)
+still_changed k us e = absurd (true≢false (sym e))
 
 abbrev FieldsStill : (Kind → List Node → List Node) → Type 0
 FieldsStill fields = (k : Kind) (us : List Node) → list_all still us ≡ true → list_all still (fields k us) ≡ true

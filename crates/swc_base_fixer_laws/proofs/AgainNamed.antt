@@ -1,5 +1,5 @@
 -- The name `async` before `of` as the expression that its pair makes of it, and the functions that keep what is seen.
-use Rattle.std.proofs.Common.{◌≡◌, Bool, true, false, not, ◌&&◌, List, [], ◌∷◌, map, refl, sym, ap, ◌∙◌, rules}
+use Rattle.std.proofs.Common.{◌≡◌, Bool, true, false, not, ◌&&◌, List, [], ◌∷◌, map, refl, sym, ap, ◌∙◌, rules, true≢false}
 use Rattle.std.specs.Prelude.{if◌then◌else◌}
 use Rattle.std.specs.List.{list_all}
 use Rattle.swc_tree_marks.specs.declared.ident.Ident.{Ident}
@@ -165,7 +165,7 @@ pattern_name k i = search (rules, the_lemmas)
 pattern_row : (k : Kind) (i : Ident) → is_identifier k ≡ true → pattern_in (Identifier k i) (Node-F.Identifier k i) ≡ Identifier kind.BindingIdent i
 pattern_row kind.Ident i h = refl
 pattern_row kind.BindingIdent i h = refl
-pattern_row k i h = absurd (cc)
+pattern_row k i h = absurd (true≢false (sym h))
 
 still_name : (k : Kind) (i : Ident) → still (Identifier k i) ≡ is_identifier k
 still_name k i = search (rules, the_lemmas)

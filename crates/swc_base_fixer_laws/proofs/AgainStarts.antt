@@ -1,5 +1,5 @@
 -- The last step of the due pairs on a tree without spans; so places of pairs change spans alone.
-use Rattle.std.proofs.Common.{◌≡◌, Bool, true, false, List, [], ◌∷◌, map, refl, sym, ap, ◌∙◌, rules}
+use Rattle.std.proofs.Common.{◌≡◌, Bool, true, false, List, [], ◌∷◌, map, refl, sym, ap, ◌∙◌, rules, true≢false}
 use Rattle.std.specs.Prelude.{codes, nat_eq, if◌then◌else◌}
 use Rattle.std.specs.Cmp.Lexicographic.{pointwise}
 use Rattle.swc_tree_node.specs.declared.kind.Kind.{Kind}
@@ -34,7 +34,7 @@ computed_row k ts = refl
 computed_changed : (k : Kind) (us ts : List Node) → is_changed k ≡ true → is_computed_in (Node-F.Tree k us) ≡ is_computed_in (Node-F.Tree k ts)
 computed_changed kind.IfStmt us ts e = refl
 computed_changed kind.ForOfStmt us ts e = refl
-computed_changed k us ts e = absurd (cc)
+computed_changed k us ts e = absurd (true≢false (sym e))
 
 computed_same : (t : Node) → is_computed_in (out-Node (spanless t)) ≡ is_computed_in (out-Node t)
 computed_same t = look spanless_mapped Bool is_computed_in (λ s r. refl) (λ k i. refl) (λ ts. refl) computed_row computed_changed t
@@ -46,7 +46,7 @@ bracket_row k ts = refl
 bracket_changed : (k : Kind) (us ts : List Node) → is_changed k ≡ true → let_bracket_in (Node-F.Tree k us) ≡ let_bracket_in (Node-F.Tree k ts)
 bracket_changed kind.IfStmt us ts e = refl
 bracket_changed kind.ForOfStmt us ts e = refl
-bracket_changed k us ts e = absurd (cc)
+bracket_changed k us ts e = absurd (true≢false (sym e))
 
 pub bracket_same : (t : Node) → is_let_bracket (spanless t) ≡ is_let_bracket t
 bracket_same t = look spanless_mapped Bool let_bracket_in (λ s r. refl) (λ k i. refl) (λ ts. refl) bracket_row bracket_changed t

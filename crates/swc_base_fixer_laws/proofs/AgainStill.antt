@@ -1,5 +1,5 @@
 -- What stripping leaves, stripping leaves as it is.
-use Rattle.std.proofs.Common.{◌≡◌, Bool, true, false, not, ◌&&◌, List, [], ◌∷◌, ◌++◌, map, take, refl, sym, ap, ◌∙◌, rules}
+use Rattle.std.proofs.Common.{◌≡◌, Bool, true, false, not, ◌&&◌, List, [], ◌∷◌, ◌++◌, map, take, refl, sym, ap, ◌∙◌, rules, true≢false}
 use Rattle.std.specs.Prelude.{Option, Some, IsTrue, if◌then◌else◌}
 use Rattle.std.specs.List.{flat_map, filter, list_all}
 use Rattle.swc_tree_marks.specs.declared.ident.Ident.{Ident}
@@ -140,7 +140,7 @@ single_of_tree : (k : Kind) (ts : List Node) → single (Tree k ts) ≡ single_i
 single_of_tree k ts = search (rules, the_lemmas)
 
 single_row : (k : Kind) (ts : List Node) → single_in (Node-F.Tree k ts) ≡ true → parts_in (Tree k ts) (Node-F.Tree k ts) ≡ Tree k ts ∷ []
-single_row kind.SeqExpr (s ∷ e ∷ []) h = absurd (cc)
+single_row kind.SeqExpr (s ∷ e ∷ []) h = absurd (true≢false (sym h))
 single_row k ts h = refl
 
 parts_single : (t : Node) → single t ≡ true → parts t ≡ t ∷ []
@@ -157,7 +157,7 @@ not_true true h = absurd (cc)
 not_true false h = refl
 
 loose_row : (k : Kind) (ts : List Node) → loose_in (Node-F.Tree k ts) ≡ true → effects (Tree k ts) ≡ Tree k ts ∷ []
-loose_row kind.SeqExpr (s ∷ e ∷ []) h = absurd (cc)
+loose_row kind.SeqExpr (s ∷ e ∷ []) h = absurd (true≢false (sym h))
 loose_row kind.UnaryExpr (s ∷ o ∷ a ∷ []) h = effects_of_other s o a (not_true (is_void o) h)
 loose_row k ts h = effects_of_tree k ts
 
@@ -221,7 +221,7 @@ target_stays t = by_children (λ t. bare_name t ≡ false → target t ≡ t) (
     (λ k ts l h. search (rules, the_lemmas)) t
 
 stays_row : (k : Kind) (ts : List Node) → still_in (Node-F.Tree k ts) ≡ true → strip_step (Node-F.Tree k ts) ≡ Tree k ts
-stays_row kind.ParenExpr (s ∷ e ∷ []) h = absurd (cc)
+stays_row kind.ParenExpr (s ∷ e ∷ []) h = absurd (true≢false (sym h))
 stays_row kind.SeqExpr (s ∷ e ∷ []) h =
     let p = both (is_list e) (firm (items_of e)) h in
     firm_sequence s (items_of e) p.1 ∙ ap (λ e. Tree kind.SeqExpr (s ∷ e ∷ [])) (list_is e p.0)

@@ -1,5 +1,5 @@
 -- The second step of the due pairs sets none round an assignment's target.
-use Rattle.std.proofs.Common.{◌≡◌, Bool, true, false, not, ◌&&◌, List, [], ◌∷◌, map, refl, sym, ap, ◌∙◌, rules}
+use Rattle.std.proofs.Common.{◌≡◌, Bool, true, false, not, ◌&&◌, List, [], ◌∷◌, map, refl, sym, ap, ◌∙◌, rules, true≢false}
 use Rattle.std.specs.Prelude.{if◌then◌else◌}
 use Rattle.std.specs.List.{list_all}
 use Rattle.swc_tree_marks.specs.declared.ident.Ident.{Ident}
@@ -44,7 +44,8 @@ target_row p b kind.SuperPropExpr ts c n = ap (has_kind is_paren) (rolls-Tree ki
 target_row p b kind.BindingIdent ts c n = ap (has_kind is_paren) (rolls-Tree kind.BindingIdent (map free (map (heading p) ts))) ∙ kind_of_tree is_paren kind.BindingIdent _
 target_row p b kind.ArrayPat ts c n = ap (has_kind is_paren) (rolls-Tree kind.ArrayPat (map free (map (heading p) ts))) ∙ kind_of_tree is_paren kind.ArrayPat _
 target_row p b kind.ObjectPat ts c n = ap (has_kind is_paren) (rolls-Tree kind.ObjectPat (map free (map (heading p) ts))) ∙ kind_of_tree is_paren kind.ObjectPat _
-target_row p b k ts c n = absurd (cc)
+target_row p b kind.ParenExpr ts c n = absurd (true≢false n)
+target_row p b k ts c n = absurd (true≢false (sym c))
 
 target_kind : (p : Places) (b : Bool) (t : Node) → Fits t (one class.AssignTarget) → has_kind is_paren t ≡ false → has_kind is_paren (heading p t b) ≡ false
 target_kind p b t = by_children (λ t. Fits t (one class.AssignTarget) → has_kind is_paren t ≡ false → has_kind is_paren (heading p t b) ≡ false)

@@ -1,5 +1,5 @@
 -- The first step of the due pairs sets none round an assignment's target.
-use Rattle.std.proofs.Common.{◌≡◌, ℕ, Bool, true, false, not, ◌&&◌, ◌||◌, List, [], ◌∷◌, map, refl, sym, ap, ◌∙◌, rules}
+use Rattle.std.proofs.Common.{◌≡◌, ℕ, Bool, true, false, not, ◌&&◌, ◌||◌, List, [], ◌∷◌, map, refl, sym, ap, ◌∙◌, rules, true≢false}
 use Rattle.std.specs.Prelude.{if◌then◌else◌}
 use Rattle.std.specs.List.{list_all}
 use Rattle.swc_tree_node.specs.declared.kind.Kind.{Kind}
@@ -40,7 +40,7 @@ bare_parts k ts h = both (bare_target_in (Node-F.Tree k ts)) (list_all has_bare_
 
 -- a tree without pairs
 unpaired_row : (k : Kind) (ts : List Node) → pairless_step (Node-F.Tree k (map is_pairless ts)) ≡ true → (is_paren k ≡ false) × (list_all (λ b. b) (map is_pairless ts) ≡ true)
-unpaired_row kind.ParenExpr ts h = absurd (cc)
+unpaired_row kind.ParenExpr ts h = absurd (true≢false (sym h))
 unpaired_row k ts h = (refl, h)
 
 abbrev Unpaired : Node → Type 0

@@ -1,5 +1,5 @@
 -- In the answer to what can be written down no assignment's target stands in a pair, so a second run gives it again.
-use Rattle.std.proofs.Common.{◌≡◌, Bool, true, false, not, ◌&&◌, List, [], ◌∷◌, map, refl, sym, ap, ◌∙◌, rules}
+use Rattle.std.proofs.Common.{◌≡◌, Bool, true, false, not, ◌&&◌, List, [], ◌∷◌, map, refl, sym, ap, ◌∙◌, rules, true≢false}
 use Rattle.std.specs.Prelude.{if◌then◌else◌}
 use Rattle.std.specs.List.{list_all}
 use Rattle.swc_tree_node.specs.declared.kind.Kind.{Kind}
@@ -99,8 +99,12 @@ target_row : (p : Places) (k : Kind) (ts : List Node) → belongs k class.Assign
     → has_kind is_paren (first_in p (Tree k ts) (Node-F.Tree k (map (spined p) ts))) ≡ false
 target_row p kind.MemberExpr (s ∷ o ∷ m ∷ []) c n h g = member_if (is_let_bracket (Tree kind.MemberExpr (s ∷ o ∷ m ∷ []))) p (s ∷ o ∷ m ∷ []) _ (no_bracket s o m g)
 target_row p kind.MemberExpr ts c n h g = absurd (cc)
-target_row p kind.ObjectPat ts c n h g = absurd (cc)
-target_row p k ts c n h g = absurd (cc)
+target_row p kind.ObjectPat ts c n h g = absurd (true≢false n)
+target_row p kind.SuperPropExpr ts c n h g = absurd (cc)
+target_row p kind.BindingIdent ts c n h g = absurd (cc)
+target_row p kind.ArrayPat ts c n h g = absurd (cc)
+target_row p kind.ParenExpr ts c n h g = absurd (cc)
+target_row p k ts c n h g = absurd (true≢false (sym c))
 
 other_leaf : (p : Places) (t : Node) → is_other (start t) ≡ true → is_other (start t) ≡ false → has_kind is_paren (first_paired p t) ≡ false
 other_leaf p t e h = absurd (cc)

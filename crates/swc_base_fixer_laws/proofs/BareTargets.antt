@@ -1,5 +1,5 @@
 -- In a tree that can be written down each parenthesised assignment target can stand bare.
-use Rattle.std.proofs.Common.{◌≡◌, Bool, true, not, ◌||◌, List, map, refl, sym, ap, ◌∙◌, rules}
+use Rattle.std.proofs.Common.{◌≡◌, Bool, true, not, ◌||◌, List, map, refl, sym, ap, ◌∙◌, rules, true≢false}
 use Rattle.std.specs.List.{list_all}
 use Rattle.swc_tree_node.specs.declared.kind.Kind.{Kind}
 use Rattle.swc_tree_node.specs.declared.kind.Kind.TheVariants as kind
@@ -24,7 +24,7 @@ abbrev own : Kind → List Node → Bool
 own k ts = bare_in (Node-F.Tree k (map seen ts))
 
 no_assignment : (k : Kind) (ts : List Node) → list_all is_quiet (slots_of k) ≡ true → own k ts ≡ true
-no_assignment kind.AssignExpr ts q = absurd (cc)
+no_assignment kind.AssignExpr ts q = absurd (true≢false (sym q))
 no_assignment k ts q = refl
 
 -- the left side of an assignment
@@ -44,7 +44,7 @@ stands_row kind.AssignExpr ts (more a _ (more b _ (more {t = l} _ x (more _ y no
 stands_row k ts x r h = refl
 
 head_stands_row : (k : Kind) (ts : List Node) (r : Round) → in_head_in (Node-F.Tree k (map asked ts)) r ≡ true → own k ts ≡ true
-head_stands_row kind.AssignExpr ts r h = absurd (cc)
+head_stands_row kind.AssignExpr ts r h = absurd (true≢false (sym h))
 head_stands_row k ts r h = refl
 
 baring : Everywhere all_bare own

@@ -1,5 +1,5 @@
 -- A tree that can be written down can be with its blocks.
-use Rattle.std.proofs.Common.{◌≡◌, Bool, true, false, not, ◌&&◌, List, [], ◌∷◌, map, refl, sym, ap, ◌∙◌, rules}
+use Rattle.std.proofs.Common.{◌≡◌, Bool, true, false, not, ◌&&◌, List, [], ◌∷◌, map, refl, sym, ap, ◌∙◌, rules, true≢false}
 use Rattle.std.specs.Prelude.{if◌then◌else◌}
 use Rattle.swc_tree_node.specs.declared.kind.Kind.{Kind}
 use Rattle.swc_tree_node.specs.declared.kind.Kind.TheVariants as kind
@@ -57,7 +57,7 @@ fits_as t u e f = rw (← e) (blocks_fit t (one class.Expr) f)
 
 -- a block round a statement
 public_row : (k : Kind) → belongs k class.Stmt ≡ true → is_private_name k ≡ false
-public_row kind.PrivateName h = absurd (cc)
+public_row kind.PrivateName h = absurd (true≢false (sym h))
 public_row k h = refl
 
 name_only_statement : (k : Kind) → (is_identifier k && belongs k class.Stmt) ≡ false

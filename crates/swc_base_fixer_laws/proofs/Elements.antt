@@ -1,5 +1,5 @@
 -- Elements of patterns and parameters stay such where pairs are set in them.
-use Rattle.std.proofs.Common.{◌≡◌, true, false, IsTrue, List, [], ◌∷◌, refl, sym, ap, ◌∙◌, rules}
+use Rattle.std.proofs.Common.{◌≡◌, true, false, IsTrue, List, [], ◌∷◌, refl, sym, ap, ◌∙◌, rules, true≢false}
 use Rattle.swc_tree_marks.specs.declared.span.Span.{Span as Range}
 use Rattle.swc_tree_node.specs.declared.kind.Kind.{Kind}
 use Rattle.swc_tree_node.specs.declared.kind.Kind.TheVariants as kind
@@ -30,7 +30,7 @@ pattern_list : (ts : List Node) → pattern_of (Many ts) ≡ Many ts
 pattern_list ts = search (rules, the_lemmas)
 
 own_row : (k : Kind) (ts : List Node) → can_pair k ≡ true → pattern_of_param_in (Tree k ts) (Node-F.Tree k ts) ≡ Tree k ts
-own_row kind.Param ts h = absurd (cc)
+own_row kind.Param ts h = absurd (true≢false (sym h))
 own_row k ts h = refl
 
 own_pattern : (t : Node) → IsTrue (pairable t) → pattern_of t ≡ t
@@ -40,7 +40,7 @@ own_pattern t = by_children (λ t. IsTrue (pairable t) → pattern_of t ≡ t)
     (λ k ts l h. pattern_tree k ts ∙ own_row k ts (sym (pairable_tree k ts) ∙ h)) t
 
 rest_row : (k : Kind) → can_pair k ≡ true → is_rest k ≡ false
-rest_row kind.RestPat h = absurd (cc)
+rest_row kind.RestPat h = absurd (true≢false (sym h))
 rest_row k h = refl
 
 no_rest : (t : Node) → IsTrue (pairable t) → has_kind is_rest t ≡ false

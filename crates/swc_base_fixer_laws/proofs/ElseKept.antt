@@ -1,5 +1,5 @@
 -- Pairs leave it as it is where an `else` would go.
-use Rattle.std.proofs.Common.{◌≡◌, true, false, IsTrue, List, [], ◌∷◌, map, refl, sym, ◌∙◌, rules}
+use Rattle.std.proofs.Common.{◌≡◌, true, false, IsTrue, List, [], ◌∷◌, map, refl, sym, ◌∙◌, rules, true≢false}
 use Rattle.swc_tree_marks.specs.declared.span.Span.{Span as Range}
 use Rattle.swc_tree_marks.specs.declared.ident.Ident.{Ident}
 use Rattle.swc_tree_node.specs.declared.kind.Kind.{Kind}
@@ -15,13 +15,13 @@ use Rattle.swc_base_fixer_laws.specs.Sets.FieldsSet.{nil, field}
 use Rattle.swc_tree_node.specs.declared.slot.Slot.{Slot}
 
 expression_row : (k : Kind) (ts : List Node) → can_pair k ≡ true → takes_else_step (Node-F.Tree k (map takes_else ts)) ≡ false
-expression_row kind.IfStmt ts h = absurd (cc)
-expression_row kind.LabeledStmt ts h = absurd (cc)
-expression_row kind.WhileStmt ts h = absurd (cc)
-expression_row kind.WithStmt ts h = absurd (cc)
-expression_row kind.ForStmt ts h = absurd (cc)
-expression_row kind.ForInStmt ts h = absurd (cc)
-expression_row kind.ForOfStmt ts h = absurd (cc)
+expression_row kind.IfStmt ts h = absurd (true≢false (sym h))
+expression_row kind.LabeledStmt ts h = absurd (true≢false (sym h))
+expression_row kind.WhileStmt ts h = absurd (true≢false (sym h))
+expression_row kind.WithStmt ts h = absurd (true≢false (sym h))
+expression_row kind.ForStmt ts h = absurd (true≢false (sym h))
+expression_row kind.ForInStmt ts h = absurd (true≢false (sym h))
+expression_row kind.ForOfStmt ts h = absurd (true≢false (sym h))
 expression_row k ts h = refl
 
 pub pairable_tree : (k : Kind) (ts : List Node) → pairable (Tree k ts) ≡ can_pair k

@@ -1,5 +1,5 @@
 -- What holds of each node of a tree that can be written down, if what it asks of one node is met by each such node.
-use Rattle.std.proofs.Common.{◌≡◌, Bool, true, false, ◌&&◌, ◌||◌, List, [], ◌∷◌, map, refl, sym, ap, ◌∙◌, rules}
+use Rattle.std.proofs.Common.{◌≡◌, Bool, true, false, ◌&&◌, ◌||◌, List, [], ◌∷◌, map, refl, sym, ap, ◌∙◌, rules, true≢false}
 use Rattle.std.specs.Prelude.{if◌then◌else◌}
 use Rattle.std.specs.List.{list_all}
 use Rattle.swc_tree_node.specs.declared.kind.Kind.{Kind}
@@ -141,21 +141,21 @@ module _ {holds : Node → Bool} {own : Kind → List Node → Bool} (test : Eve
   row kind.ExportDecl (more a _ (more _ x none)) r h = let p = half h in also (a refl) (also (x.by_sound r p.1) refl)
   row kind.Module (more a _ (more _ x (more b _ none))) r h = also (a refl) (also (x.by_sound (strictly true r) h) (also (b refl) refl))
   row kind.Script (more a _ (more _ x (more b _ none))) r h = let p = half h in also (a refl) (also (x.by_sound _ p.1) (also (b refl) refl))
-  row kind.TsInterfaceDecl d r h = absurd (cc)
-  row kind.TsTypeAliasDecl d r h = absurd (cc)
-  row kind.TsEnumDecl d r h = absurd (cc)
-  row kind.TsModuleDecl d r h = absurd (cc)
+  row kind.TsInterfaceDecl d r h = absurd (true≢false (sym h))
+  row kind.TsTypeAliasDecl d r h = absurd (true≢false (sym h))
+  row kind.TsEnumDecl d r h = absurd (true≢false (sym h))
+  row kind.TsModuleDecl d r h = absurd (true≢false (sym h))
   row k d r h = all d (binding r) h
 
   head_row : (k : Kind) {ts : List Node} → Parts holds (slots_of k) ts → (r : Round) → in_head_in (Node-F.Tree k (map asked ts)) r ≡ true → list_all holds ts ≡ true
   head_row kind.VarDecl (more a _ (more b _ (more _ x none))) r h = let p = half h in also (a refl) (also (b refl) (also (x.by_sound (binding r) p.1) refl))
   head_row kind.UsingDecl (more a _ (more b _ (more _ x none))) r h = let p = half h in let q = half p.1 in also (a refl) (also (b refl) (also (x.by_sound (binding r) q.1) refl))
-  head_row k d r h = absurd (cc)
+  head_row k d r h = absurd (true≢false (sym h))
 
   key_row : (k : Kind) (ts : List Node) → FieldsFit (slots_of k) ts → constructor_key_in (Node-F.Tree k ts) ≡ true → holds (Tree k ts) ≡ true
   key_row kind.IdentName ts f h = quiet_tree kind.IdentName ts refl (quiet_fields (λ t. holds t ≡ true) quiet_holds (slots_of kind.IdentName) ts refl f)
   key_row kind.Str ts f h = quiet_tree kind.Str ts refl (quiet_fields (λ t. holds t ≡ true) quiet_holds (slots_of kind.Str) ts refl f)
-  key_row k ts f h = absurd (cc)
+  key_row k ts f h = absurd (true≢false (sym h))
 
   -- every node
   abbrev Holding : Node → Type 0

@@ -1,5 +1,5 @@
 -- Forms of statements, directives, and what else is asked of parts by their looks, stay where pairs are set.
-use Rattle.std.proofs.Common.{◌≡◌, ℕ, Bool, true, false, List, [], ◌∷◌, refl, sym, ap, ◌∙◌, rules}
+use Rattle.std.proofs.Common.{◌≡◌, ℕ, Bool, true, false, List, [], ◌∷◌, refl, sym, ap, ◌∙◌, rules, true≢false}
 use Rattle.std.specs.Prelude.{Option, Some, None, nat_eq, is_some, codes, unwrap_or}
 use Rattle.std.specs.Cmp.Lexicographic.{pointwise}
 use Rattle.std.specs.List.{list_all}
@@ -30,7 +30,7 @@ use Rattle.swc_base_fixer_laws.proofs.Strings.{string_of_tree}
 
 -- forms of statements
 plain_hidden : (k : Kind) (ts : List Node) → can_pair k ≡ true → plain_function_in (Node-F.Tree k ts) ≡ false
-plain_hidden kind.Function ts h = absurd (cc)
+plain_hidden kind.Function ts h = absurd (true≢false (sym h))
 plain_hidden k ts h = refl
 
 plain_rows : (k : Kind) (ts us : List Node) → FieldsSet (slots_of k) ts us → plain_function_in (Node-F.Tree k us) ≡ plain_function_in (Node-F.Tree k ts)
@@ -41,14 +41,14 @@ plain_function_kept : {s : Slot} {t u : Node} → Sets s t u → plain_function_
 plain_function_kept d = seen_anywhere Bool plain_function_in false plain_hidden (λ us. refl) (λ k i. refl) (λ ts us. refl) plain_rows d
 
 form_hidden : (k : Kind) (ts : List Node) → can_pair k ≡ true → form_in (Node-F.Tree k ts) ≡ Ordinary
-form_hidden kind.VarDecl ts h = absurd (cc)
-form_hidden kind.FnDecl ts h = absurd (cc)
-form_hidden kind.ClassDecl ts h = absurd (cc)
-form_hidden kind.UsingDecl ts h = absurd (cc)
-form_hidden kind.TsInterfaceDecl ts h = absurd (cc)
-form_hidden kind.TsTypeAliasDecl ts h = absurd (cc)
-form_hidden kind.TsEnumDecl ts h = absurd (cc)
-form_hidden kind.TsModuleDecl ts h = absurd (cc)
+form_hidden kind.VarDecl ts h = absurd (true≢false (sym h))
+form_hidden kind.FnDecl ts h = absurd (true≢false (sym h))
+form_hidden kind.ClassDecl ts h = absurd (true≢false (sym h))
+form_hidden kind.UsingDecl ts h = absurd (true≢false (sym h))
+form_hidden kind.TsInterfaceDecl ts h = absurd (true≢false (sym h))
+form_hidden kind.TsTypeAliasDecl ts h = absurd (true≢false (sym h))
+form_hidden kind.TsEnumDecl ts h = absurd (true≢false (sym h))
+form_hidden kind.TsModuleDecl ts h = absurd (true≢false (sym h))
 form_hidden k ts h = refl
 
 form_rows : (k : Kind) (ts us : List Node) → FieldsSet (slots_of k) ts us → form_in (Node-F.Tree k us) ≡ form_in (Node-F.Tree k ts)
@@ -62,8 +62,8 @@ pub form_kept : {s : Slot} {t u : Node} → Sets s t u → form u ≡ form t
 form_kept d = seen_anywhere Form form_in Ordinary form_hidden (λ us. refl) (λ k i. refl) (λ ts us. refl) form_rows d
 
 declares_hidden : (k : Kind) (ts : List Node) → can_pair k ≡ true → declares_in (Node-F.Tree k ts) ≡ false
-declares_hidden kind.VarDecl ts h = absurd (cc)
-declares_hidden kind.UsingDecl ts h = absurd (cc)
+declares_hidden kind.VarDecl ts h = absurd (true≢false (sym h))
+declares_hidden kind.UsingDecl ts h = absurd (true≢false (sym h))
 declares_hidden k ts h = refl
 
 declares_rows : (k : Kind) (ts us : List Node) → FieldsSet (slots_of k) ts us → declares_in (Node-F.Tree k us) ≡ declares_in (Node-F.Tree k ts)
@@ -155,7 +155,7 @@ abbrev strict_in : Node-F Node → Bool
 strict_in x = has_use_strict (block_in x)
 
 strict_hidden : (k : Kind) (ts : List Node) → can_pair k ≡ true → strict_in (Node-F.Tree k ts) ≡ false
-strict_hidden kind.BlockStmt ts h = absurd (cc)
+strict_hidden kind.BlockStmt ts h = absurd (true≢false (sym h))
 strict_hidden k ts h = refl
 
 strict_rows : (k : Kind) (ts us : List Node) → FieldsSet (slots_of k) ts us → strict_in (Node-F.Tree k us) ≡ strict_in (Node-F.Tree k ts)

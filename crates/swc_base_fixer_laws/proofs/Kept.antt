@@ -1,5 +1,5 @@
 -- Pairs that are set in a levelled tree leave it levelled.
-use Rattle.std.proofs.Common.{◌≡◌, Bool, true, false, not, ◌&&◌, ◌||◌, IsTrue, List, [], ◌∷◌, refl, sym, ap, ◌∙◌, rules}
+use Rattle.std.proofs.Common.{◌≡◌, Bool, true, false, not, ◌&&◌, ◌||◌, IsTrue, List, [], ◌∷◌, refl, sym, ap, ◌∙◌, rules, true≢false}
 use Rattle.std.specs.Prelude.{Option, Some, None}
 use Rattle.std.specs.List.{list_all}
 use Rattle.swc_tree_marks.specs.declared.span.Span.{Span as Range}
@@ -130,7 +130,7 @@ sequence_kept b (cons s (cons c (cons d x))) h = refl
 
 fields_kept : (b : Bool) (k : Kind) (x : Bool) {ts us : List Node} → is_sequence k ≡ x → AllUp ts us → each_meets (demands b (Node-F.Tree k ts)) ts ≡ true → each_meets (demands b (Node-F.Tree k us)) us ≡ true
 fields_kept b kind.SeqExpr x e d h = sequence_kept b d h
-fields_kept b k true e d h = absurd (cc)
+fields_kept b k true e d h = absurd (true≢false (sym e))
 fields_kept b k false {ts = ts} {us = us} e d h = let a = asks b k d e in ap (λ ds. each_meets ds us) a.0 ∙ each_kept (demands b (Node-F.Tree k ts)) d a.1 h
 
 span_fine : (s : Range) (c : Bool) → levelled (Span s) c ≡ true

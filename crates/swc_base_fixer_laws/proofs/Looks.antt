@@ -1,5 +1,5 @@
 -- What is seen of a node from above stays where pairs are set in it or round it.
-use Rattle.std.proofs.Common.{◌≡◌, Bool, true, false, not, ◌&&◌, IsTrue, List, [], ◌∷◌, map, refl, sym, ◌∙◌, rules}
+use Rattle.std.proofs.Common.{◌≡◌, Bool, true, false, not, ◌&&◌, IsTrue, List, [], ◌∷◌, map, refl, sym, ◌∙◌, rules, true≢false}
 use Rattle.std.specs.Prelude.{Option, Some}
 use Rattle.swc_tree_marks.specs.declared.span.Span.{Span as Range}
 use Rattle.swc_tree_marks.specs.declared.ident.Ident.{Ident}
@@ -79,7 +79,7 @@ same_fixed {s = s} (tree k ts us e d) h f = absurd (no_tree s k ts h f)
 
 -- what can get a pair is no private name
 private_row : (k : Kind) → can_pair k ≡ true → is_private_name k ≡ false
-private_row kind.PrivateName h = absurd (cc)
+private_row kind.PrivateName h = absurd (true≢false (sym h))
 private_row k h = refl
 
 pub private_kept : {s : Slot} {t u : Node} → Sets s t u → has_kind is_private_name t ≡ false → has_kind is_private_name u ≡ false
@@ -161,8 +161,8 @@ module _ (X : Type 0) (look : Node-F Node → X) (off : X) where
 
 -- plain patterns, defaults, properties of patterns, names
 plain_hidden : (k : Kind) (ts : List Node) → can_pair k ≡ true → is_plain_pattern_in (Node-F.Tree k ts) ≡ false
-plain_hidden kind.ArrayPat ts h = absurd (cc)
-plain_hidden kind.ObjectPat ts h = absurd (cc)
+plain_hidden kind.ArrayPat ts h = absurd (true≢false (sym h))
+plain_hidden kind.ObjectPat ts h = absurd (true≢false (sym h))
 plain_hidden k ts h = refl
 
 plain_rows : (k : Kind) (ts us : List Node) → FieldsSet (slots_of k) ts us → is_plain_pattern_in (Node-F.Tree k us) ≡ is_plain_pattern_in (Node-F.Tree k ts)
@@ -177,7 +177,7 @@ pub pattern_kept : {s : Slot} {t u : Node} → Sets s t u → is_head s ≡ fals
 pattern_kept d h r = rw (plain_kept d h, target_kept d h) refl
 
 default_hidden : (k : Kind) (ts : List Node) → can_pair k ≡ true → default_in (Node-F.Tree k ts) ≡ false
-default_hidden kind.AssignPat ts h = absurd (cc)
+default_hidden kind.AssignPat ts h = absurd (true≢false (sym h))
 default_hidden k ts h = refl
 
 default_rows : (k : Kind) (ts us : List Node) → FieldsSet (slots_of k) ts us → default_in (Node-F.Tree k us) ≡ default_in (Node-F.Tree k ts)
@@ -188,8 +188,8 @@ pub element_kept : {s : Slot} {t u : Node} → Sets s t u → is_head s ≡ fals
 element_kept d h r = rw (look_kept Bool default_in false default_hidden (λ us. refl) (λ ts. refl) default_rows d h, pattern_kept d h r) refl
 
 property_hidden : (k : Kind) (ts : List Node) → can_pair k ≡ true → property_in (Node-F.Tree k ts) ≡ false
-property_hidden kind.KeyValuePatProp ts h = absurd (cc)
-property_hidden kind.AssignPatProp ts h = absurd (cc)
+property_hidden kind.KeyValuePatProp ts h = absurd (true≢false (sym h))
+property_hidden kind.AssignPatProp ts h = absurd (true≢false (sym h))
 property_hidden k ts h = refl
 
 property_rows : (k : Kind) (ts us : List Node) → FieldsSet (slots_of k) ts us → property_in (Node-F.Tree k us) ≡ property_in (Node-F.Tree k ts)

@@ -1,5 +1,5 @@
 -- In a tree that can be written down stands no namespace.
-use Rattle.std.proofs.Common.{◌≡◌, ℕ, zero, suc, Bool, true, false, Option, Some, None, List, [], ◌∷◌, map, refl, sym, ap, ◌∙◌, subst, rules}
+use Rattle.std.proofs.Common.{◌≡◌, ℕ, zero, suc, Bool, true, false, Option, Some, None, List, [], ◌∷◌, map, refl, sym, ap, ◌∙◌, subst, rules, true≢false}
 use Rattle.std.specs.List.{list_all, slice_get}
 use Rattle.swc_tree_node.specs.declared.kind.Kind.{Kind}
 use Rattle.swc_tree_node.specs.declared.kind.Kind.TheVariants as kind
@@ -32,15 +32,15 @@ abbrev pub is_free : Node → Bool
 is_free = every is_other_in
 
 no_quiet : (k : Kind) (ts : List Node) → list_all is_quiet (slots_of k) ≡ true → is_other_in (Node-F.Tree k ts) ≡ true
-no_quiet kind.TsModuleDecl ts q = absurd (cc)
+no_quiet kind.TsModuleDecl ts q = absurd (true≢false (sym q))
 no_quiet k ts q = refl
 
 no_sound : (k : Kind) (ts : List Node) → Parts is_free (slots_of k) ts → (r : Round) → sound_in (Node-F.Tree k (map asked ts)) r ≡ true → is_other_in (Node-F.Tree k ts) ≡ true
-no_sound kind.TsModuleDecl ts x r h = absurd (cc)
+no_sound kind.TsModuleDecl ts x r h = absurd (true≢false (sym h))
 no_sound k ts x r h = refl
 
 no_head : (k : Kind) (ts : List Node) (r : Round) → in_head_in (Node-F.Tree k (map asked ts)) r ≡ true → is_other_in (Node-F.Tree k ts) ≡ true
-no_head kind.TsModuleDecl ts r h = absurd (cc)
+no_head kind.TsModuleDecl ts r h = absurd (true≢false (sym h))
 no_head k ts r h = refl
 
 freeing : Everywhere is_free (λ k ts. is_other_in (Node-F.Tree k ts))

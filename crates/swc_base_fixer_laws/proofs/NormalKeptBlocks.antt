@@ -1,5 +1,5 @@
 -- The normal form takes off the blocks that keep an `else` out, and blocks that are set stay as they are.
-use Rattle.std.proofs.Common.{◌≡◌, Bool, true, false, List, [], ◌∷◌, map, refl, sym, ap, ◌∙◌, rules}
+use Rattle.std.proofs.Common.{◌≡◌, Bool, true, false, List, [], ◌∷◌, map, refl, sym, ap, ◌∙◌, rules, true≢false}
 use Rattle.std.specs.Prelude.{if◌then◌else◌}
 use Rattle.swc_tree_node.specs.declared.kind.Kind.{Kind}
 use Rattle.swc_tree_node.specs.declared.kind.Kind.TheVariants as kind
@@ -104,7 +104,7 @@ written_takes t = by_children Takes
 
 -- what takes an `else` is no block
 no_block : (k : Kind) (ts : List Node) → takes_else_step (Node-F.Tree k (map takes_else ts)) ≡ true → opened_in (Tree k ts) (Node-F.Tree k ts) ≡ Tree k ts
-no_block kind.BlockStmt ts h = absurd (cc)
+no_block kind.BlockStmt ts h = absurd (true≢false (sym h))
 no_block k ts h = refl
 
 opened_tree : (k : Kind) (ts : List Node) → opened (Tree k ts) ≡ opened_in (Tree k ts) (Node-F.Tree k ts)

@@ -1,5 +1,5 @@
 -- The first step of the due pairs sets no pair right in another.
-use Rattle.std.proofs.Common.{◌≡◌, ℕ, Bool, true, false, not, ◌&&◌, ◌||◌, List, [], ◌∷◌, map, refl, sym, ap, ◌∙◌, rules}
+use Rattle.std.proofs.Common.{◌≡◌, ℕ, Bool, true, false, not, ◌&&◌, ◌||◌, List, [], ◌∷◌, map, refl, sym, ap, ◌∙◌, rules, true≢false}
 use Rattle.std.specs.Prelude.{nat_le, if◌then◌else◌}
 use Rattle.std.specs.List.{list_all}
 use Rattle.swc_tree_node.specs.declared.kind.Kind.{Kind}
@@ -38,7 +38,7 @@ once_pair p e h g =
 -- what is a pair is one of its kind
 paren_row : (P : Node → Type 0) → ((ts : List Node) → P (Tree kind.ParenExpr ts)) → (k : Kind) (ts : List Node) → is_paren k ≡ true → P (Tree k ts)
 paren_row P f kind.ParenExpr ts h = f ts
-paren_row P f k ts h = absurd (cc)
+paren_row P f k ts h = absurd (true≢false (sym h))
 
 no_paren : {A : Type 0} (t : Node) → has_kind is_paren t ≡ false → has_kind is_paren t ≡ true → A
 no_paren t e h = absurd (cc)
@@ -113,7 +113,7 @@ three : (k : Kind) (s o m : Node) → once_in (Node-F.Tree k (s ∷ o ∷ m ∷ 
 three k s o m e h u g d = let q = both (paired_once s) (paired_once o && (paired_once m && true)) h in let r = both (paired_once o) (paired_once m && true) q.1 in once_tree k (s ∷ u ∷ m ∷ []) ∙ rw (g, q.0, d) r.1
 
 called_kind : (k : Kind) (ts : List Node) → called_step (Node-F.Tree k (map is_called ts)) ≡ true → is_paren k ≡ false
-called_kind kind.ParenExpr ts h = absurd (cc)
+called_kind kind.ParenExpr ts h = absurd (true≢false (sym h))
 called_kind k ts h = refl
 
 called_pair : (p : Places) (k : Kind) (ts : List Node) → is_called (Tree k ts) ≡ true → paired_once (Tree k ts) ≡ true → paired_once (pair p (Tree k ts)) ≡ true

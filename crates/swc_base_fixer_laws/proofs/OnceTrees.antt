@@ -1,5 +1,5 @@
 -- The fixer sets no pair right in another.
-use Rattle.std.proofs.Common.{◌≡◌, Bool, true, false, not, ◌&&◌, ◌||◌, List, [], ◌∷◌, map, refl, sym, ap, ◌∙◌, rules}
+use Rattle.std.proofs.Common.{◌≡◌, Bool, true, false, not, ◌&&◌, ◌||◌, List, [], ◌∷◌, map, refl, sym, ap, ◌∙◌, rules, true≢false}
 use Rattle.std.specs.Prelude.{Option, if◌then◌else◌}
 use Rattle.std.specs.List.{list_all}
 use Rattle.swc_tree_marks.specs.declared.ident.Ident.{Ident}
@@ -129,7 +129,7 @@ all_levelled p [] l h = refl
 all_levelled p (t ∷ ts) l h = let q = both (still t) (list_all still ts) h in also_both _ _ (l.0 q.0 false) (all_levelled p ts l.1 q.1)
 
 level_top : (p : Places) (b : Bool) (k : Kind) (ts : List Node) → still_in (Node-F.Tree k ts) ≡ true → once_in (Node-F.Tree k (asked p b k (stepped p ts))) ≡ true
-level_top p b kind.ParenExpr (s ∷ e ∷ []) h = absurd (cc)
+level_top p b kind.ParenExpr (s ∷ e ∷ []) h = absurd (true≢false (sym h))
 level_top p b k ts h = refl
 
 level_row : (p : Places) (b : Bool) (k : Kind) (ts : List Node) → Each (Levelled p) ts → still_in (Node-F.Tree k ts) ≡ true → list_all still ts ≡ true → paired_once (level_step p (Node-F.Tree k (map (pairing p) ts)) b) ≡ true

@@ -1,5 +1,5 @@
 -- What is asked of declarators, accessors, chains and targets by their looks stays where pairs are set.
-use Rattle.std.proofs.Common.{◌≡◌, ℕ, Bool, true, false, not, ◌||◌, IsTrue, List, [], ◌∷◌, map, refl, sym, ap, ◌∙◌, rules}
+use Rattle.std.proofs.Common.{◌≡◌, ℕ, Bool, true, false, not, ◌||◌, IsTrue, List, [], ◌∷◌, map, refl, sym, ap, ◌∙◌, rules, true≢false}
 use Rattle.std.specs.Prelude.{Option, None, length, nat_eq, is_some}
 use Rattle.std.specs.List.{list_all}
 use Rattle.swc_tree_marks.specs.declared.ident.Ident.{Ident}
@@ -50,7 +50,7 @@ abbrev has_none : Node-F Node → Bool
 has_none f = nat_eq (length (parameters_in f)) 0
 
 none_hidden : (k : Kind) (ts : List Node) → can_pair k ≡ true → has_none (Node-F.Tree k ts) ≡ true
-none_hidden kind.Function ts h = absurd (cc)
+none_hidden kind.Function ts h = absurd (true≢false (sym h))
 none_hidden k ts h = refl
 
 none_rows : (k : Kind) (ts us : List Node) → FieldsSet (slots_of k) ts us → has_none (Node-F.Tree k us) ≡ has_none (Node-F.Tree k ts)
@@ -69,7 +69,7 @@ abbrev has_one : Node-F Node → Bool
 has_one f = one_without_rest (parameters_in f)
 
 one_hidden : (k : Kind) (ts : List Node) → can_pair k ≡ true → has_one (Node-F.Tree k ts) ≡ false
-one_hidden kind.Function ts h = absurd (cc)
+one_hidden kind.Function ts h = absurd (true≢false (sym h))
 one_hidden k ts h = refl
 
 one_rows : (k : Kind) (ts us : List Node) → FieldsSet (slots_of k) ts us → has_one (Node-F.Tree k us) ≡ has_one (Node-F.Tree k ts)
@@ -195,7 +195,11 @@ base_kept d h = seen_closed Bool base_goes_on_in (λ ts us. refl) base_rows d h
 target_row : (k : Kind) (ts : List Node) → can_pair k ≡ true → belongs k class.AssignTarget ≡ true → target_in (Node-F.Tree k (map seen ts)) ≡ true
 target_row kind.MemberExpr ts h g = refl
 target_row kind.SuperPropExpr ts h g = refl
-target_row k ts h g = absurd (cc)
+target_row kind.BindingIdent ts h g = absurd (cc)
+target_row kind.ArrayPat ts h g = absurd (cc)
+target_row kind.ObjectPat ts h g = absurd (cc)
+target_row kind.ParenExpr ts h g = absurd (cc)
+target_row k ts h g = absurd (true≢false (sym g))
 
 pair_target : (t : Node) → IsTrue (pairable t) → Fits t (one class.AssignTarget) → is_target t ≡ true
 pair_target t = by_children (λ t. IsTrue (pairable t) → Fits t (one class.AssignTarget) → is_target t ≡ true)

@@ -1,5 +1,5 @@
 -- A second run of the fixer sets each pair where the first one did.
-use Rattle.std.proofs.Common.{◌≡◌, ℕ, Bool, true, false, not, ◌&&◌, ◌||◌, ◌==◌, IsTrue, List, [], ◌∷◌, ◌++◌, map, refl, sym, ap, subst, ◌∙◌, rules}
+use Rattle.std.proofs.Common.{◌≡◌, ℕ, Bool, true, false, not, ◌&&◌, ◌||◌, ◌==◌, IsTrue, List, [], ◌∷◌, ◌++◌, map, refl, sym, ap, subst, ◌∙◌, rules, true≢false}
 use Rattle.std.specs.Prelude.{if◌then◌else◌}
 use Rattle.std.specs.List.{list_all, list_any, flat_map}
 use Rattle.swc_tree_marks.specs.declared.span.Span.{Span as Range}
@@ -48,7 +48,7 @@ all_stay q [] l = refl
 all_stay q (t ∷ ts) l = rw (l.0, all_stay q ts l.1) refl
 
 quiet_other : (k : Kind) → is_quiet_kind k ≡ true → is_pair k ≡ false
-quiet_other kind.ParenExpr h = absurd (cc)
+quiet_other kind.ParenExpr h = absurd (true≢false (sym h))
 quiet_other k h = refl
 
 quiet_stays : (q : Places) (t : Node) (s : Slot) → is_quiet s ≡ true → Fits t s → placed q t ≡ t

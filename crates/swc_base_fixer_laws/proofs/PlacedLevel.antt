@@ -1,6 +1,6 @@
 -- The first step of the due pairs of a tree without pairs, for two places: what it makes by the one it makes by the other,
 -- with each pair where that one has it.
-use Rattle.std.proofs.Common.{◌≡◌, ℕ, Bool, true, false, not, ◌||◌, List, [], ◌∷◌, map, refl, sym, ap, subst, ◌∙◌, rules}
+use Rattle.std.proofs.Common.{◌≡◌, ℕ, Bool, true, false, not, ◌||◌, List, [], ◌∷◌, map, refl, sym, ap, subst, ◌∙◌, rules, true≢false}
 use Rattle.std.specs.Prelude.{if◌then◌else◌}
 use Rattle.std.specs.List.{list_all}
 use Rattle.swc_tree_node.specs.declared.kind.Kind.{Kind}
@@ -98,7 +98,7 @@ module _ (p q : Places) where
 
   pair_of : (k : Kind) (us : List Node) → is_pair k ≡ true → (r : Places) → call_paired r (Tree k us) ≡ pair r (Tree k us)
   pair_of kind.ParenExpr us e r = paired_of r kind.ParenExpr us
-  pair_of k us e r = absurd (cc)
+  pair_of k us e r = absurd (true≢false (sym e))
 
   called_tree : (b : Bool) (k : Kind) (ts : List Node) → is_pair k ≡ b → Each Called ts → Called (Tree k ts)
   called_tree true k ts e l = ap (call_paired q) (placed_of_tree q k ts) ∙ pair_of k (placed_fields q k (map f ts)) e q ∙ ap (pair q) (sym (placed_of_tree q k ts)) ∙ sym (moved (Tree k ts)) ∙ ap f (sym (pair_of k ts e p))
@@ -129,7 +129,7 @@ module _ (p q : Places) where
 
   key_stays : (k : Kind) (us : List Node) → is_pair k ≡ true → (r : Places) → key_in r (Tree k us) (Node-F.Tree k us) ≡ Tree k us
   key_stays kind.ParenExpr us e r = refl
-  key_stays k us e r = absurd (cc)
+  key_stays k us e r = absurd (true≢false (sym e))
 
   key_tree : (b : Bool) (k : Kind) (ts : List Node) → is_pair k ≡ b → Keyed (Tree k ts)
   key_tree true k ts e =
@@ -207,7 +207,7 @@ module _ (p q : Places) where
 
   sequence_stays : (k : Kind) (us : List Node) → is_pair k ≡ true → (r : Places) → sequence_statement r (Tree k us) (Node-F.Tree k us) ≡ Tree k us
   sequence_stays kind.ParenExpr us e r = refl
-  sequence_stays k us e r = absurd (cc)
+  sequence_stays k us e r = absurd (true≢false (sym e))
 
   sequence_tree : (b : Bool) (k : Kind) (ts : List Node) → is_pair k ≡ b → Sequenced (Tree k ts)
   sequence_tree true k ts e =
@@ -253,7 +253,7 @@ module _ (p q : Places) where
   level_row b k ts n l = ap (λ us. Tree k (asked q b k us)) (stepped_same ts l) ∙ ap (Tree k) (asked_same b k (stepped p ts)) ∙ sym (tree_other k (asked p b k (stepped p ts)) n)
 
   pairless_row : (k : Kind) (bs : List Bool) → pairless_step (Node-F.Tree k bs) ≡ true → (is_pair k ≡ false) × (list_all (λ b. b) bs ≡ true)
-  pairless_row kind.ParenExpr bs h = absurd (cc)
+  pairless_row kind.ParenExpr bs h = absurd (true≢false (sym h))
   pairless_row k bs h = (refl, h)
 
   level_tree : (k : Kind) (ts : List Node) → Each Levelled ts → Levelled (Tree k ts)

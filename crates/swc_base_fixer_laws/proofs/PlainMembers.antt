@@ -1,5 +1,5 @@
 -- In a tree that can be written down no member is one of the name `let`, and pairs keep it so.
-use Rattle.std.proofs.Common.{◌≡◌, ℕ, Bool, true, false, not, ◌&&◌, List, [], ◌∷◌, map, refl, sym, ap, ◌∙◌, rules}
+use Rattle.std.proofs.Common.{◌≡◌, ℕ, Bool, true, false, not, ◌&&◌, List, [], ◌∷◌, map, refl, sym, ap, ◌∙◌, rules, true≢false}
 use Rattle.std.specs.Prelude.{codes, nat_eq}
 use Rattle.std.specs.Cmp.Lexicographic.{pointwise, same_text}
 use Rattle.std.specs.List.{list_all}
@@ -69,7 +69,7 @@ other_name t = by_children (λ t. (r : Round) → sound t (binding r) ≡ true �
     (λ k ts l r h. search (rules, the_lemmas)) t
 
 no_member : (k : Kind) (ts : List Node) → list_all is_quiet (slots_of k) ≡ true → plain_in (Node-F.Tree k ts) ≡ true
-no_member kind.MemberExpr ts q = absurd (cc)
+no_member kind.MemberExpr ts q = absurd (true≢false (sym q))
 no_member k ts q = refl
 
 own_row : (k : Kind) (ts : List Node) → Parts is_plain (slots_of k) ts → (r : Round) → sound_in (Node-F.Tree k (map asked ts)) r ≡ true → plain_in (Node-F.Tree k ts) ≡ true
@@ -77,7 +77,7 @@ own_row kind.MemberExpr ts (more a _ (more {t = o} _ x (more _ y none))) r h = l
 own_row k ts x r h = refl
 
 own_head_row : (k : Kind) (ts : List Node) (r : Round) → in_head_in (Node-F.Tree k (map asked ts)) r ≡ true → plain_in (Node-F.Tree k ts) ≡ true
-own_head_row kind.MemberExpr ts r h = absurd (cc)
+own_head_row kind.MemberExpr ts r h = absurd (true≢false (sym h))
 own_head_row k ts r h = refl
 
 plain : Everywhere is_plain (λ k ts. plain_in (Node-F.Tree k ts))

@@ -1,5 +1,5 @@
 -- Places in which no expression stands, nor below them, whatever fits there.
-use Rattle.std.proofs.Common.{◌≡◌, ℕ, Bool, true, not, ◌&&◌, ◌==◌, Some, List, [], ◌∷◌, refl, sym, ap, ◌∙◌}
+use Rattle.std.proofs.Common.{◌≡◌, ℕ, Bool, true, not, ◌&&◌, ◌==◌, Some, List, [], ◌∷◌, refl, sym, ap, ◌∙◌, true≢false}
 use Rattle.std.specs.List.{list_any, list_all}
 use Rattle.swc_tree_node.specs.declared.kind.Kind.{Kind}
 use Rattle.swc_tree_node.specs.declared.kind.Kind.TheVariants as kind
@@ -43,15 +43,15 @@ is_quiet _ = true
 
 -- the fields of a quiet kind are quiet too
 pub quiet_slots : (k : Kind) → is_quiet_kind k ≡ true → list_all is_quiet (slots_of k) ≡ true
-quiet_slots kind.Ident q = absurd (cc)
-quiet_slots kind.BindingIdent q = absurd (cc)
+quiet_slots kind.Ident q = absurd (true≢false (sym q))
+quiet_slots kind.BindingIdent q = absurd (true≢false (sym q))
 quiet_slots kind.Str q = refl
 quiet_slots kind.Super q = refl
 quiet_slots kind.TplElement q = refl
 quiet_slots kind.PrivateName q = refl
 quiet_slots kind.ExportNamespaceSpecifier q = refl
 quiet_slots kind.ExportNamedSpecifier q = refl
-quiet_slots k q = absurd (cc)
+quiet_slots k q = absurd (true≢false (sym q))
 
 quiet_class : (s : Slot) (c : Class) → single s ≡ Some (content.Node c) → is_quiet s ≡ true → is_quiet_content (content.Node c) ≡ true
 quiet_class (slot.One (content.Node d)) c e q = let x : d ≡ c = cc in ap (λ c. is_quiet_content (content.Node c)) (sym x) ∙ q

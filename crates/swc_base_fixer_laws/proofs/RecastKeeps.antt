@@ -1,5 +1,5 @@
 -- What is kept of a node whose parts are made anew: its statements say the same, and its chains go on.
-use Rattle.std.proofs.Common.{◌≡◌, ℕ, Bool, true, false, Option, None, List, [], ◌∷◌, map, refl, sym, ap, ◌∙◌, rules}
+use Rattle.std.proofs.Common.{◌≡◌, ℕ, Bool, true, false, Option, None, List, [], ◌∷◌, map, refl, sym, ap, ◌∙◌, rules, true≢false}
 use Rattle.std.specs.Prelude.{is_some}
 use Rattle.swc_tree_node.specs.declared.kind.Kind.{Kind}
 use Rattle.swc_tree_node.specs.declared.kind.Kind.TheVariants as kind
@@ -62,7 +62,7 @@ strict_row k x r h = refl
 goes_on_row : (k : Kind) {ts us : List Node} → Kept (slots_of k) ts us → (r : Round) → sound_in (Node-F.Tree k (map asked ts)) r ≡ true → base_goes_on_in (Node-F.Tree k ts) ≡ true → base_goes_on_in (Node-F.Tree k us) ≡ true
 goes_on_row kind.MemberExpr (also_kept a _ _ (also_kept c f x (also_kept d g y nought))) r h e = let p = half h in let q = half p.1 in x.chain f (binding r) q.0 ∙ e
 goes_on_row kind.OptCall (also_kept a _ _ (also_kept c f x (also_kept d g y nought))) r h e = let p = half h in let q = half p.1 in let m = half q.0 in x.chain f (binding r) m.1 ∙ e
-goes_on_row k x r h e = absurd (cc)
+goes_on_row k x r h e = absurd (true≢false (sym e))
 
 no_items : (k : Kind) (ts : List Node) → items_of (Tree k ts) ≡ []
 no_items k ts = search (rules, the_lemmas)
@@ -135,29 +135,29 @@ list_keeps {ts = ts} {us = us} x = record {
 
 -- special kinds
 special_says : (k : Kind) (ts : List Node) → is_special k ≡ true → statement_in (Node-F.Tree k ts) ≡ None
-special_says kind.ExprStmt ts h = absurd (cc)
+special_says kind.ExprStmt ts h = absurd (true≢false (sym h))
 special_says k ts h = refl
 
 special_strict : (k : Kind) (ts : List Node) → is_special k ≡ true → strict_in (Node-F.Tree k ts) ≡ false
-special_strict kind.BlockStmt ts h = absurd (cc)
+special_strict kind.BlockStmt ts h = absurd (true≢false (sym h))
 special_strict k ts h = refl
 
 special_goes_on : (k : Kind) (ts : List Node) → is_special k ≡ true → base_goes_on_in (Node-F.Tree k ts) ≡ false
-special_goes_on kind.MemberExpr ts h = absurd (cc)
-special_goes_on kind.OptCall ts h = absurd (cc)
+special_goes_on kind.MemberExpr ts h = absurd (true≢false (sym h))
+special_goes_on kind.OptCall ts h = absurd (true≢false (sym h))
 special_goes_on k ts h = refl
 
 special_head : (k : Kind) (ts : List Node) → is_special k ≡ true → (r : Round) → in_head_in (Node-F.Tree k (map asked ts)) r ≡ false
-special_head kind.VarDecl ts h r = absurd (cc)
-special_head kind.UsingDecl ts h r = absurd (cc)
+special_head kind.VarDecl ts h r = absurd (true≢false (sym h))
+special_head kind.UsingDecl ts h r = absurd (true≢false (sym h))
 special_head k ts h r = refl
 
 expression_says : (k : Kind) (ts : List Node) → belongs k class.Expr ≡ true → statement_in (Node-F.Tree k ts) ≡ None
-expression_says kind.ExprStmt ts h = absurd (cc)
+expression_says kind.ExprStmt ts h = absurd (true≢false (sym h))
 expression_says k ts h = refl
 
 expression_strict : (k : Kind) (ts : List Node) → belongs k class.Expr ≡ true → strict_in (Node-F.Tree k ts) ≡ false
-expression_strict kind.BlockStmt ts h = absurd (cc)
+expression_strict kind.BlockStmt ts h = absurd (true≢false (sym h))
 expression_strict k ts h = refl
 
 -- what an expression of a special kind keeps
@@ -183,7 +183,7 @@ expression_keeps k ts u s f x y = record {
 no_expression : (k : Kind) → is_whole k ≡ true → belongs k class.Expr ≡ false
 no_expression kind.Class h = refl
 no_expression kind.IfStmt h = refl
-no_expression k h = absurd (cc)
+no_expression k h = absurd (true≢false (sym h))
 
 whole_keeps : (k : Kind) (ts us : List Node) → is_whole k ≡ true → ((r : Round) → sound (Tree k ts) r ≡ true → sound (Tree k us) r ≡ true) → Keeps (Tree k ts) (Tree k us)
 whole_keeps k ts us w x = (

@@ -1,5 +1,5 @@
 -- What is asked of parts by their looks stays met where a tree is made anew.
-use Rattle.std.proofs.Common.{◌≡◌, ℕ, Bool, true, false, not, ◌&&◌, ◌||◌, List, [], refl, ap, ◌∙◌, rules}
+use Rattle.std.proofs.Common.{◌≡◌, ℕ, Bool, true, false, not, ◌&&◌, ◌||◌, List, [], refl, ap, ◌∙◌, rules, sym, true≢false}
 use Rattle.std.specs.Prelude.{Option, None, nat_eq, length, codes, unwrap_or, if◌then◌else◌}
 use Rattle.std.specs.Cmp.Lexicographic.{pointwise}
 use Rattle.std.specs.List.{list_all}
@@ -43,11 +43,11 @@ text_same d = seen_same (Option (List ℕ)) text_in None (λ k ts h. refl) (λ k
 
 -- forms of statements
 plain_hidden : (k : Kind) (ts : List Node) → belongs k class.Expr ≡ true → plain_function_in (Node-F.Tree k ts) ≡ false
-plain_hidden kind.Function ts h = absurd (cc)
+plain_hidden kind.Function ts h = absurd (true≢false (sym h))
 plain_hidden k ts h = refl
 
 plain_special : (k : Kind) (ts : List Node) → is_special k ≡ true → plain_function_in (Node-F.Tree k ts) ≡ false
-plain_special kind.Function ts h = absurd (cc)
+plain_special kind.Function ts h = absurd (true≢false (sym h))
 plain_special k ts h = refl
 
 plain_rows : (k : Kind) (ts us : List Node) → FieldsRecast (slots_of k) ts us → plain_function_in (Node-F.Tree k us) ≡ plain_function_in (Node-F.Tree k ts)
@@ -58,25 +58,25 @@ plain_function_same : {s : Slot} {t u : Node} → Recasts s t u → plain_functi
 plain_function_same d = seen_same Bool plain_function_in false plain_hidden (λ k i h. refl) plain_special (λ ts us. refl) plain_rows d
 
 form_hidden : (k : Kind) (ts : List Node) → belongs k class.Expr ≡ true → form_in (Node-F.Tree k ts) ≡ Ordinary
-form_hidden kind.VarDecl ts h = absurd (cc)
-form_hidden kind.FnDecl ts h = absurd (cc)
-form_hidden kind.ClassDecl ts h = absurd (cc)
-form_hidden kind.UsingDecl ts h = absurd (cc)
-form_hidden kind.TsInterfaceDecl ts h = absurd (cc)
-form_hidden kind.TsTypeAliasDecl ts h = absurd (cc)
-form_hidden kind.TsEnumDecl ts h = absurd (cc)
-form_hidden kind.TsModuleDecl ts h = absurd (cc)
+form_hidden kind.VarDecl ts h = absurd (true≢false (sym h))
+form_hidden kind.FnDecl ts h = absurd (true≢false (sym h))
+form_hidden kind.ClassDecl ts h = absurd (true≢false (sym h))
+form_hidden kind.UsingDecl ts h = absurd (true≢false (sym h))
+form_hidden kind.TsInterfaceDecl ts h = absurd (true≢false (sym h))
+form_hidden kind.TsTypeAliasDecl ts h = absurd (true≢false (sym h))
+form_hidden kind.TsEnumDecl ts h = absurd (true≢false (sym h))
+form_hidden kind.TsModuleDecl ts h = absurd (true≢false (sym h))
 form_hidden k ts h = refl
 
 form_special : (k : Kind) (ts : List Node) → is_special k ≡ true → form_in (Node-F.Tree k ts) ≡ Ordinary
-form_special kind.VarDecl ts h = absurd (cc)
-form_special kind.FnDecl ts h = absurd (cc)
-form_special kind.ClassDecl ts h = absurd (cc)
-form_special kind.UsingDecl ts h = absurd (cc)
-form_special kind.TsInterfaceDecl ts h = absurd (cc)
-form_special kind.TsTypeAliasDecl ts h = absurd (cc)
-form_special kind.TsEnumDecl ts h = absurd (cc)
-form_special kind.TsModuleDecl ts h = absurd (cc)
+form_special kind.VarDecl ts h = absurd (true≢false (sym h))
+form_special kind.FnDecl ts h = absurd (true≢false (sym h))
+form_special kind.ClassDecl ts h = absurd (true≢false (sym h))
+form_special kind.UsingDecl ts h = absurd (true≢false (sym h))
+form_special kind.TsInterfaceDecl ts h = absurd (true≢false (sym h))
+form_special kind.TsTypeAliasDecl ts h = absurd (true≢false (sym h))
+form_special kind.TsEnumDecl ts h = absurd (true≢false (sym h))
+form_special kind.TsModuleDecl ts h = absurd (true≢false (sym h))
 form_special k ts h = refl
 
 form_rows : (k : Kind) (ts us : List Node) → FieldsRecast (slots_of k) ts us → form_in (Node-F.Tree k us) ≡ form_in (Node-F.Tree k ts)
@@ -96,13 +96,13 @@ pub no_using_same : {s : Slot} {t u : Node} → Recasts s t u → list_all (λ t
 no_using_same d = of_items Bool (list_all (λ t. not (is_using t))) (λ ts us c. all_same (λ t. not (is_using t)) (λ t u e. ap not (using_same e)) c) d
 
 declares_hidden : (k : Kind) (ts : List Node) → belongs k class.Expr ≡ true → declares_in (Node-F.Tree k ts) ≡ false
-declares_hidden kind.VarDecl ts h = absurd (cc)
-declares_hidden kind.UsingDecl ts h = absurd (cc)
+declares_hidden kind.VarDecl ts h = absurd (true≢false (sym h))
+declares_hidden kind.UsingDecl ts h = absurd (true≢false (sym h))
 declares_hidden k ts h = refl
 
 declares_special : (k : Kind) (ts : List Node) → is_special k ≡ true → declares_in (Node-F.Tree k ts) ≡ false
-declares_special kind.VarDecl ts h = absurd (cc)
-declares_special kind.UsingDecl ts h = absurd (cc)
+declares_special kind.VarDecl ts h = absurd (true≢false (sym h))
+declares_special kind.UsingDecl ts h = absurd (true≢false (sym h))
 declares_special k ts h = refl
 
 declares_rows : (k : Kind) (ts us : List Node) → FieldsRecast (slots_of k) ts us → declares_in (Node-F.Tree k us) ≡ declares_in (Node-F.Tree k ts)
@@ -115,8 +115,8 @@ declares_same d = seen_same Bool declares_in false declares_hidden (λ k i h. re
 
 -- patterns
 plain_pattern_special : (k : Kind) (ts : List Node) → is_special k ≡ true → is_plain_pattern_in (Node-F.Tree k ts) ≡ false
-plain_pattern_special kind.ArrayPat ts h = absurd (cc)
-plain_pattern_special kind.ObjectPat ts h = absurd (cc)
+plain_pattern_special kind.ArrayPat ts h = absurd (true≢false (sym h))
+plain_pattern_special kind.ObjectPat ts h = absurd (true≢false (sym h))
 plain_pattern_special k ts h = refl
 
 plain_pattern_rows : (k : Kind) (ts us : List Node) → FieldsRecast (slots_of k) ts us → is_plain_pattern_in (Node-F.Tree k ts) ≡ true → is_plain_pattern_in (Node-F.Tree k us) ≡ true
@@ -140,12 +140,12 @@ pattern_up {t = t} {u = u} d r h =
     or_up (is_plain_pattern_in (out-Node t)) (r.assigned && is_target t) (is_plain_pattern_in (out-Node u)) (r.assigned && is_target u) (plain_pattern_up d) (and_up r.assigned (is_target t) (is_target u) (target_up d)) h
 
 default_special : (k : Kind) (ts : List Node) → is_special k ≡ true → default_in (Node-F.Tree k ts) ≡ false
-default_special kind.AssignPat ts h = absurd (cc)
+default_special kind.AssignPat ts h = absurd (true≢false (sym h))
 default_special k ts h = refl
 
 default_rows : (k : Kind) (ts us : List Node) → FieldsRecast (slots_of k) ts us → default_in (Node-F.Tree k ts) ≡ true → default_in (Node-F.Tree k us) ≡ true
 default_rows kind.AssignPat ts us (field a (field b (field c nil))) h = refl
-default_rows k ts us d h = absurd (cc)
+default_rows k ts us d h = absurd (true≢false (sym h))
 
 default_up : {s : Slot} {t u : Node} → Recasts s t u → default_in (out-Node t) ≡ true → default_in (out-Node u) ≡ true
 default_up d h = seen_up default_in default_special (λ ts us. refl) default_rows d h
@@ -154,8 +154,8 @@ pub element_up : {s : Slot} {t u : Node} → Recasts s t u → (r : Round) → e
 element_up {t = t} {u = u} d r h = or_up (default_in (out-Node t)) (pattern t r) (default_in (out-Node u)) (pattern u r) (default_up d) (pattern_up d r) h
 
 property_special : (k : Kind) (ts : List Node) → is_special k ≡ true → property_in (Node-F.Tree k ts) ≡ false
-property_special kind.KeyValuePatProp ts h = absurd (cc)
-property_special kind.AssignPatProp ts h = absurd (cc)
+property_special kind.KeyValuePatProp ts h = absurd (true≢false (sym h))
+property_special kind.AssignPatProp ts h = absurd (true≢false (sym h))
 property_special k ts h = refl
 
 property_rows : (k : Kind) (ts us : List Node) → FieldsRecast (slots_of k) ts us → property_in (Node-F.Tree k ts) ≡ true → property_in (Node-F.Tree k us) ≡ true
@@ -167,11 +167,11 @@ property_up : {s : Slot} {t u : Node} → Recasts s t u → property_in (out-Nod
 property_up d h = seen_up property_in property_special (λ ts us. refl) property_rows d h
 
 rest_hidden : (k : Kind) (ts : List Node) → belongs k class.Expr ≡ true → is_rest k ≡ false
-rest_hidden kind.RestPat ts h = absurd (cc)
+rest_hidden kind.RestPat ts h = absurd (true≢false (sym h))
 rest_hidden k ts h = refl
 
 rest_special : (k : Kind) (ts : List Node) → is_special k ≡ true → is_rest k ≡ false
-rest_special kind.RestPat ts h = absurd (cc)
+rest_special kind.RestPat ts h = absurd (true≢false (sym h))
 rest_special k ts h = refl
 
 rest_same : {s : Slot} {t u : Node} → Recasts s t u → has_kind is_rest u ≡ has_kind is_rest t
@@ -185,11 +185,11 @@ pattern_list : (ts : List Node) → pattern_of (Many ts) ≡ Many ts
 pattern_list ts = search (rules, the_lemmas)
 
 own_hidden : (u : Node) (k : Kind) (ts : List Node) → belongs k class.Expr ≡ true → pattern_of_param_in u (Node-F.Tree k ts) ≡ u
-own_hidden u kind.Param ts h = absurd (cc)
+own_hidden u kind.Param ts h = absurd (true≢false (sym h))
 own_hidden u k ts h = refl
 
 own_special : (u : Node) (k : Kind) (ts : List Node) → is_special k ≡ true → pattern_of_param_in u (Node-F.Tree k ts) ≡ u
-own_special u kind.Param ts h = absurd (cc)
+own_special u kind.Param ts h = absurd (true≢false (sym h))
 own_special u k ts h = refl
 
 own_pattern : (u : Node) → Fits u (one class.Expr) → pattern_of u ≡ u
@@ -250,11 +250,11 @@ abbrev has_none : Node-F Node → Bool
 has_none f = nat_eq (length (parameters_in f)) 0
 
 none_hidden : (k : Kind) (ts : List Node) → belongs k class.Expr ≡ true → has_none (Node-F.Tree k ts) ≡ true
-none_hidden kind.Function ts h = absurd (cc)
+none_hidden kind.Function ts h = absurd (true≢false (sym h))
 none_hidden k ts h = refl
 
 none_special : (k : Kind) (ts : List Node) → is_special k ≡ true → has_none (Node-F.Tree k ts) ≡ true
-none_special kind.Function ts h = absurd (cc)
+none_special kind.Function ts h = absurd (true≢false (sym h))
 none_special k ts h = refl
 
 none_rows : (k : Kind) (ts us : List Node) → FieldsRecast (slots_of k) ts us → has_none (Node-F.Tree k us) ≡ has_none (Node-F.Tree k ts)
@@ -273,11 +273,11 @@ abbrev has_one : Node-F Node → Bool
 has_one f = one_without_rest (parameters_in f)
 
 one_hidden : (k : Kind) (ts : List Node) → belongs k class.Expr ≡ true → has_one (Node-F.Tree k ts) ≡ false
-one_hidden kind.Function ts h = absurd (cc)
+one_hidden kind.Function ts h = absurd (true≢false (sym h))
 one_hidden k ts h = refl
 
 one_special : (k : Kind) (ts : List Node) → is_special k ≡ true → has_one (Node-F.Tree k ts) ≡ false
-one_special kind.Function ts h = absurd (cc)
+one_special kind.Function ts h = absurd (true≢false (sym h))
 one_special k ts h = refl
 
 one_rows : (k : Kind) (ts us : List Node) → FieldsRecast (slots_of k) ts us → has_one (Node-F.Tree k us) ≡ has_one (Node-F.Tree k ts)
@@ -292,17 +292,17 @@ accessor_same c d = rw (word_same d, none_same c, one_same c) refl
 
 -- declarators
 initialised_special : (x : Bool) (k : Kind) (ts : List Node) → is_special k ≡ true → initialised_in x (Node-F.Tree k ts) ≡ false
-initialised_special x kind.VarDeclarator ts h = absurd (cc)
+initialised_special x kind.VarDeclarator ts h = absurd (true≢false (sym h))
 initialised_special x k ts h = refl
 
 initialised_hidden : (x : Bool) (k : Kind) (ts : List Node) → belongs k class.Expr ≡ true → initialised_in x (Node-F.Tree k ts) ≡ false
-initialised_hidden x kind.VarDeclarator ts h = absurd (cc)
+initialised_hidden x kind.VarDeclarator ts h = absurd (true≢false (sym h))
 initialised_hidden x k ts h = refl
 
 initialised_rows : (x : Bool) (k : Kind) (ts us : List Node) → FieldsRecast (slots_of k) ts us → initialised_in x (Node-F.Tree k ts) ≡ true → initialised_in x (Node-F.Tree k us) ≡ true
 initialised_rows x kind.VarDeclarator ts us (field a (field {t = t} {u = u} b (field {t = i} {u = j} c nil))) h =
     or_up (not x && is_name_kind_in (out-Node t)) (not (is_absent i)) (not x && is_name_kind_in (out-Node u)) (not (is_absent j)) (and_up (not x) (is_name_kind_in (out-Node t)) (is_name_kind_in (out-Node u)) (name_up b)) (λ e. ap not (absent_same c) ∙ e) h
-initialised_rows x k ts us d h = absurd (cc)
+initialised_rows x k ts us d h = absurd (true≢false (sym h))
 
 initialised_up : (x : Bool) {s : Slot} {t u : Node} → Recasts s t u → initialised_in x (out-Node t) ≡ true → initialised_in x (out-Node u) ≡ true
 initialised_up x d h = seen_up (initialised_in x) (initialised_special x) (λ ts us. refl) (initialised_rows x) d h
@@ -329,12 +329,12 @@ if_up : (x : Bool) (a b : Bool) → b ≡ a → (if x then not a else a) ≡ tru
 if_up x a b e h = rw e h
 
 named_special : (x : Bool) (k : Kind) (ts : List Node) → is_special k ≡ true → is_named_in x (Node-F.Tree k ts) ≡ false
-named_special x kind.VarDeclarator ts h = absurd (cc)
+named_special x kind.VarDeclarator ts h = absurd (true≢false (sym h))
 named_special x k ts h = refl
 
 named_rows : (x : Bool) (k : Kind) (ts us : List Node) → FieldsRecast (slots_of k) ts us → is_named_in x (Node-F.Tree k ts) ≡ true → is_named_in x (Node-F.Tree k us) ≡ true
 named_rows x kind.VarDeclarator ts us (field a (field b (field {t = i} {u = j} c nil))) h = let p = half h in also (binding_name_up b p.0) (if_up x (is_absent i) (is_absent j) (absent_same c) p.1)
-named_rows x k ts us d h = absurd (cc)
+named_rows x k ts us d h = absurd (true≢false (sym h))
 
 named_up : (x : Bool) {s : Slot} {t u : Node} → Recasts s t u → is_named_in x (out-Node t) ≡ true → is_named_in x (out-Node u) ≡ true
 named_up x d h = seen_up (is_named_in x) (named_special x) (λ ts us. refl) (named_rows x) d h
@@ -344,26 +344,26 @@ all_named x d h = items_up (are_named x) (λ ts us c e. all_up (λ d. is_named_i
 
 -- specifiers
 local_special : (k : Kind) (ts : List Node) → is_special k ≡ true → local_specifier_in (Node-F.Tree k ts) ≡ false
-local_special kind.ExportNamedSpecifier ts h = absurd (cc)
+local_special kind.ExportNamedSpecifier ts h = absurd (true≢false (sym h))
 local_special k ts h = refl
 
 local_rows : (k : Kind) (ts us : List Node) → FieldsRecast (slots_of k) ts us → local_specifier_in (Node-F.Tree k ts) ≡ true → local_specifier_in (Node-F.Tree k us) ≡ true
 local_rows kind.ExportNamedSpecifier ts us (field a (field b (field c nil))) h = name_up b h
-local_rows k ts us d h = absurd (cc)
+local_rows k ts us d h = absurd (true≢false (sym h))
 
 pub all_local : {s : Slot} {t u : Node} → Recasts s t u → list_all (λ t. local_specifier_in (out-Node t)) (items_of t) ≡ true → list_all (λ t. local_specifier_in (out-Node t)) (items_of u) ≡ true
 all_local d h = items_up (list_all (λ t. local_specifier_in (out-Node t))) (λ ts us c e. all_up (λ t. local_specifier_in (out-Node t)) (λ t u e. seen_up local_specifier_in local_special (λ ts us. refl) local_rows e) c e) d h
 
 -- keys of constructors
 key_special : (k : Kind) (ts : List Node) → is_special k ≡ true → constructor_key_in (Node-F.Tree k ts) ≡ false
-key_special kind.IdentName ts h = absurd (cc)
-key_special kind.Str ts h = absurd (cc)
+key_special kind.IdentName ts h = absurd (true≢false (sym h))
+key_special kind.Str ts h = absurd (true≢false (sym h))
 key_special k ts h = refl
 
 key_rows : (k : Kind) (ts us : List Node) → FieldsRecast (slots_of k) ts us → constructor_key_in (Node-F.Tree k ts) ≡ true → constructor_key_in (Node-F.Tree k us) ≡ true
 key_rows kind.IdentName ts us (field a (field b nil)) h = ap (λ x. pointwise nat_eq (unwrap_or x []) (codes "constructor")) (text_same b) ∙ h
 key_rows kind.Str ts us (field a (field b (field c nil))) h = ap (λ x. pointwise nat_eq (unwrap_or x []) (codes "constructor")) (text_same b) ∙ h
-key_rows k ts us d h = absurd (cc)
+key_rows k ts us d h = absurd (true≢false (sym h))
 
 pub key_up : {s : Slot} {t u : Node} → Recasts s t u → constructor_key_in (out-Node t) ≡ true → constructor_key_in (out-Node u) ≡ true
 key_up d h = seen_up constructor_key_in key_special (λ ts us. refl) key_rows d h

@@ -1,5 +1,5 @@
 -- A tree that can be written down can be once its parts are made anew, if each part is.
-use Rattle.std.proofs.Common.{◌≡◌, Bool, true, false, not, ◌&&◌, ◌||◌, Option, List, [], ◌∷◌, map, refl, sym, ap, ◌∙◌, rules}
+use Rattle.std.proofs.Common.{◌≡◌, Bool, true, false, not, ◌&&◌, ◌||◌, Option, List, [], ◌∷◌, map, refl, sym, ap, ◌∙◌, rules, true≢false}
 use Rattle.std.specs.Prelude.{suc, is_some, nat_le, nat_eq, length, if◌then◌else◌}
 use Rattle.std.specs.List.{list_all}
 use Rattle.swc_tree_node.specs.declared.kind.Kind.{Kind}
@@ -131,8 +131,8 @@ strict_at b b' e {us = us} k r h = ap (λ v. all_sound (map asked us) (strictly 
 
 -- the left side of an assignment
 pattern_hidden : (k : Kind) (ts : List Node) → belongs k class.Expr ≡ true → is_pattern_target k ≡ false
-pattern_hidden kind.ArrayPat ts h = absurd (cc)
-pattern_hidden kind.ObjectPat ts h = absurd (cc)
+pattern_hidden kind.ArrayPat ts h = absurd (true≢false (sym h))
+pattern_hidden kind.ObjectPat ts h = absurd (true≢false (sym h))
 pattern_hidden k ts h = refl
 
 of_kinds : (op : Option Word') (t u : Node) → has_kind is_pattern_target u ≡ has_kind is_pattern_target t → has_kind is_paren u ≡ has_kind is_paren t → (is_target t ≡ true → is_target u ≡ true) → left_side op t ≡ true → left_side op u ≡ true
@@ -255,16 +255,16 @@ row kind.Script (also_kept a _ _ (also_kept {t = t} {u = u} c f x (also_kept d g
     let p = half h in
     also (bool_at (λ t. list_all (λ t. not (is_using t)) (items_of t)) c (no_using_same c) p.0)
     (ap (λ b. sound u (strictly b r)) (same_at (λ t. has_use_strict (items_of t)) c (x.leads (strictly (has_use_strict (items_of (asked t).whole)) r) p.1)) ∙ x.keeps (strictly (has_use_strict (items_of (asked t).whole)) r) p.1)
-row kind.TsInterfaceDecl d r h = absurd (cc)
-row kind.TsTypeAliasDecl d r h = absurd (cc)
-row kind.TsEnumDecl d r h = absurd (cc)
-row kind.TsModuleDecl d r h = absurd (cc)
+row kind.TsInterfaceDecl d r h = absurd (true≢false (sym h))
+row kind.TsTypeAliasDecl d r h = absurd (true≢false (sym h))
+row kind.TsEnumDecl d r h = absurd (true≢false (sym h))
+row kind.TsModuleDecl d r h = absurd (true≢false (sym h))
 row k d r h = all d (binding r) h
 
 head_row : (k : Kind) {ts us : List Node} → Kept (slots_of k) ts us → (r : Round) → in_head_in (Node-F.Tree k (map asked ts)) r ≡ true → in_head_in (Node-F.Tree k (map asked us)) r ≡ true
 head_row kind.VarDecl (also_kept a _ _ (also_kept c f x (also_kept d g y nought))) r h = let p = half h in also (bool_at (λ t. one_bare (items_of t)) d (one_bare_same d) p.0) (y.keeps (binding r) p.1)
 head_row kind.UsingDecl (also_kept a _ _ (also_kept c f x (also_kept d g y nought))) r h = let p = half h in let q = half p.1 in also (bool_at (λ t. one_bare (items_of t)) d (one_bare_same d) p.0) (also (at (λ t. are_named false (items_of t)) d (all_named false d) q.0) (y.keeps (binding r) q.1))
-head_row k d r h = absurd (cc)
+head_row k d r h = absurd (true≢false (sym h))
 
 pub tree_sound : (k : Kind) {ts us : List Node} → Kept (slots_of k) ts us → (r : Round) → sound (Tree k ts) r ≡ true → sound (Tree k us) r ≡ true
 tree_sound k {ts = ts} {us = us} x r h = sound_tree k us r ∙ row k x r (sym (sound_tree k ts r) ∙ h)

@@ -1,6 +1,6 @@
 -- A tree and what is made of it: node by node the same kind with its parts made anew, or another expression in the
 -- place of one. What a place sees of the one it sees of the other.
-use Rattle.std.proofs.Common.{◌≡◌, Bool, true, false, ◌&&◌, List, [], ◌∷◌, map, refl, sym, ap, ◌∙◌, rules}
+use Rattle.std.proofs.Common.{◌≡◌, Bool, true, false, ◌&&◌, List, [], ◌∷◌, map, refl, sym, ap, ◌∙◌, rules, true≢false}
 use Rattle.std.specs.Prelude.{length, suc}
 use Rattle.std.specs.List.{list_all}
 use Rattle.swc_tree_marks.specs.declared.ident.Ident.{Ident}
@@ -57,7 +57,7 @@ mutual
 pub whole_special : (k : Kind) → is_whole k ≡ true → is_special k ≡ true
 whole_special kind.Class h = refl
 whole_special kind.IfStmt h = refl
-whole_special k h = absurd (cc)
+whole_special k h = absurd (true≢false (sym h))
 
 -- by a test of the node
 module _ (X : Type 0) (look : Node-F Node → X) where
@@ -119,7 +119,7 @@ module _ (look : Node-F Node → Bool) where
 bare_up : (k : Kind) (ts us : List Node) → is_whole k ≡ true → target_in (Node-F.Tree k (map seen us)) ≡ target_in (Node-F.Tree k (map seen ts))
 bare_up kind.Class ts us h = refl
 bare_up kind.IfStmt ts us h = refl
-bare_up k ts us h = absurd (cc)
+bare_up k ts us h = absurd (true≢false (sym h))
 
 mutual
   pub target_up : {s : Slot} {t u : Node} → Recasts s t u → is_target t ≡ true → is_target u ≡ true

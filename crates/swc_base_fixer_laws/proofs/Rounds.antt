@@ -1,5 +1,5 @@
 -- Of an expression the same is asked where names are bound and where they are assigned to.
-use Rattle.std.proofs.Common.{◌≡◌, Bool, true, false, ◌&&◌, List, [], ◌∷◌, map, refl, sym, ◌∙◌, rules}
+use Rattle.std.proofs.Common.{◌≡◌, Bool, true, false, ◌&&◌, List, [], ◌∷◌, map, refl, sym, ◌∙◌, rules, true≢false}
 use Rattle.swc_tree_marks.specs.declared.ident.Ident.{Ident}
 use Rattle.swc_tree_node.specs.declared.kind.Kind.{Kind}
 use Rattle.swc_tree_node.specs.declared.kind.Kind.TheVariants as kind
@@ -36,7 +36,7 @@ function_row kind.Function (s ∷ p ∷ []) h f q m n w = absurd f.1.1
 function_row kind.Function (s ∷ p ∷ b ∷ []) h f q m n w = absurd f.1.1.1
 function_row kind.Function (s ∷ p ∷ b ∷ g ∷ []) h f q m n w = absurd f.1.1.1.1
 function_row kind.Function (s ∷ p ∷ b ∷ g ∷ a ∷ e ∷ ts) h f q m n w = absurd f.1.1.1.1.1
-function_row k ts h f q m n w = absurd (cc)
+function_row k ts h f q m n w = absurd (true≢false (sym h))
 
 class_row : (k : Kind) (ts : List Node) → belongs k class.Class ≡ true → FieldsFit (slots_of k) ts → (q m n : Bool) → sound_in (Node-F.Tree k (map asked ts)) (round q m) ≡ true → sound_in (Node-F.Tree k (map asked ts)) (round q n) ≡ true
 class_row kind.Class (s ∷ p ∷ b ∷ []) h f q m n w = w
@@ -44,7 +44,7 @@ class_row kind.Class [] h f q m n w = absurd f
 class_row kind.Class (s ∷ []) h f q m n w = absurd f.1
 class_row kind.Class (s ∷ p ∷ []) h f q m n w = absurd f.1.1
 class_row kind.Class (s ∷ p ∷ b ∷ g ∷ ts) h f q m n w = absurd f.1.1.1
-class_row k ts h f q m n w = absurd (cc)
+class_row k ts h f q m n w = absurd (true≢false (sym h))
 
 name_only_function : (k : Kind) → (is_identifier k && belongs k class.Function) ≡ false
 name_only_function kind.Ident = refl
@@ -85,52 +85,52 @@ row kind.MemberExpr (field a (field b (field c nil))) l g f q m n h = h
 row kind.Tpl (field a (field b (field c nil))) l g f q m n h = h
 row kind.OptChainExpr (field a (field b (field c nil))) l g f q m n h = h
 row kind.ArrowExpr (field a (field b (field c (field d nil)))) l g f q m n h = h
-row kind.Module x l g f q m n h = absurd (cc)
-row kind.Script x l g f q m n h = absurd (cc)
-row kind.ImportNamedSpecifier x l g f q m n h = absurd (cc)
-row kind.ImportDefaultSpecifier x l g f q m n h = absurd (cc)
-row kind.ImportStarAsSpecifier x l g f q m n h = absurd (cc)
-row kind.ExportDecl x l g f q m n h = absurd (cc)
-row kind.NamedExport x l g f q m n h = absurd (cc)
-row kind.ExportNamedSpecifier x l g f q m n h = absurd (cc)
-row kind.ExportNamespaceSpecifier x l g f q m n h = absurd (cc)
-row kind.Function x l g f q m n h = absurd (cc)
-row kind.Constructor x l g f q m n h = absurd (cc)
-row kind.ClassMethod x l g f q m n h = absurd (cc)
-row kind.PrivateMethod x l g f q m n h = absurd (cc)
-row kind.PrivateProp x l g f q m n h = absurd (cc)
-row kind.Class x l g f q m n h = absurd (cc)
-row kind.GetterProp x l g f q m n h = absurd (cc)
-row kind.SetterProp x l g f q m n h = absurd (cc)
-row kind.FnDecl x l g f q m n h = absurd (cc)
-row kind.ClassDecl x l g f q m n h = absurd (cc)
-row kind.ArrayPat x l g f q m n h = absurd (cc)
-row kind.ObjectPat x l g f q m n h = absurd (cc)
-row kind.RestPat x l g f q m n h = absurd (cc)
-row kind.KeyValuePatProp x l g f q m n h = absurd (cc)
-row kind.AssignPat x l g f q m n h = absurd (cc)
-row kind.AssignPatProp x l g f q m n h = absurd (cc)
-row kind.VarDecl x l g f q m n h = absurd (cc)
-row kind.UsingDecl x l g f q m n h = absurd (cc)
-row kind.VarDeclarator x l g f q m n h = absurd (cc)
-row kind.ExprStmt x l g f q m n h = absurd (cc)
-row kind.CatchClause x l g f q m n h = absurd (cc)
-row kind.WithStmt x l g f q m n h = absurd (cc)
-row kind.LabeledStmt x l g f q m n h = absurd (cc)
-row kind.IfStmt x l g f q m n h = absurd (cc)
-row kind.SwitchCase x l g f q m n h = absurd (cc)
-row kind.WhileStmt x l g f q m n h = absurd (cc)
-row kind.DoWhileStmt x l g f q m n h = absurd (cc)
-row kind.ForStmt x l g f q m n h = absurd (cc)
-row kind.ForInStmt x l g f q m n h = absurd (cc)
-row kind.ForOfStmt x l g f q m n h = absurd (cc)
+row kind.Module x l g f q m n h = absurd (true≢false (sym g))
+row kind.Script x l g f q m n h = absurd (true≢false (sym g))
+row kind.ImportNamedSpecifier x l g f q m n h = absurd (true≢false (sym g))
+row kind.ImportDefaultSpecifier x l g f q m n h = absurd (true≢false (sym g))
+row kind.ImportStarAsSpecifier x l g f q m n h = absurd (true≢false (sym g))
+row kind.ExportDecl x l g f q m n h = absurd (true≢false (sym g))
+row kind.NamedExport x l g f q m n h = absurd (true≢false (sym g))
+row kind.ExportNamedSpecifier x l g f q m n h = absurd (true≢false (sym g))
+row kind.ExportNamespaceSpecifier x l g f q m n h = absurd (true≢false (sym g))
+row kind.Function x l g f q m n h = absurd (true≢false (sym g))
+row kind.Constructor x l g f q m n h = absurd (true≢false (sym g))
+row kind.ClassMethod x l g f q m n h = absurd (true≢false (sym g))
+row kind.PrivateMethod x l g f q m n h = absurd (true≢false (sym g))
+row kind.PrivateProp x l g f q m n h = absurd (true≢false (sym g))
+row kind.Class x l g f q m n h = absurd (true≢false (sym g))
+row kind.GetterProp x l g f q m n h = absurd (true≢false (sym g))
+row kind.SetterProp x l g f q m n h = absurd (true≢false (sym g))
+row kind.FnDecl x l g f q m n h = absurd (true≢false (sym g))
+row kind.ClassDecl x l g f q m n h = absurd (true≢false (sym g))
+row kind.ArrayPat x l g f q m n h = absurd (true≢false (sym g))
+row kind.ObjectPat x l g f q m n h = absurd (true≢false (sym g))
+row kind.RestPat x l g f q m n h = absurd (true≢false (sym g))
+row kind.KeyValuePatProp x l g f q m n h = absurd (true≢false (sym g))
+row kind.AssignPat x l g f q m n h = absurd (true≢false (sym g))
+row kind.AssignPatProp x l g f q m n h = absurd (true≢false (sym g))
+row kind.VarDecl x l g f q m n h = absurd (true≢false (sym g))
+row kind.UsingDecl x l g f q m n h = absurd (true≢false (sym g))
+row kind.VarDeclarator x l g f q m n h = absurd (true≢false (sym g))
+row kind.ExprStmt x l g f q m n h = absurd (true≢false (sym g))
+row kind.CatchClause x l g f q m n h = absurd (true≢false (sym g))
+row kind.WithStmt x l g f q m n h = absurd (true≢false (sym g))
+row kind.LabeledStmt x l g f q m n h = absurd (true≢false (sym g))
+row kind.IfStmt x l g f q m n h = absurd (true≢false (sym g))
+row kind.SwitchCase x l g f q m n h = absurd (true≢false (sym g))
+row kind.WhileStmt x l g f q m n h = absurd (true≢false (sym g))
+row kind.DoWhileStmt x l g f q m n h = absurd (true≢false (sym g))
+row kind.ForStmt x l g f q m n h = absurd (true≢false (sym g))
+row kind.ForInStmt x l g f q m n h = absurd (true≢false (sym g))
+row kind.ForOfStmt x l g f q m n h = absurd (true≢false (sym g))
 row k x l g f q m n h = h
 
 sound_name : (k : Kind) (i : Ident) (r : Round) → sound (Identifier k i) r ≡ sound_in (Node-F.Identifier k i) r
 sound_name k i r = search (rules, the_lemmas)
 
 name_row : (k : Kind) (i : Ident) (q m n : Bool) → (is_identifier k && belongs k class.Expr) ≡ true → sound_in (Node-F.Identifier k i) (round q m) ≡ true → sound_in (Node-F.Identifier k i) (round q n) ≡ true
-name_row kind.BindingIdent i q m n g h = absurd (cc)
+name_row kind.BindingIdent i q m n g h = absurd (true≢false (sym g))
 name_row k i q m n g h = h
 
 free : (t : Node) → Free t

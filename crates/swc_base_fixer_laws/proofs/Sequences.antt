@@ -1,5 +1,5 @@
 -- Of a sequence that can be written down stripping leaves a sequence: no item before the last is lost altogether.
-use Rattle.std.proofs.Common.{◌≡◌, Bool, true, false, not, ◌&&◌, List, [], ◌∷◌, ◌++◌, map, take, refl, sym, ap, ◌∙◌, rules}
+use Rattle.std.proofs.Common.{◌≡◌, Bool, true, false, not, ◌&&◌, List, [], ◌∷◌, ◌++◌, map, take, refl, sym, ap, ◌∙◌, rules, true≢false}
 use Rattle.std.specs.Prelude.{if◌then◌else◌, nat_le, length}
 use Rattle.std.specs.List.{flat_map, filter, list_all}
 use Rattle.swc_tree_marks.specs.declared.ident.Ident.{Ident}
@@ -267,7 +267,7 @@ filled_row kind.AssignExpr (field {t = a} x (field {t = o} y (field {t = e} b (f
     let us = stripped a ∷ stripped o ∷ target (stripped e) ∷ stripped d ∷ [] in
     moved (stripped (Tree kind.AssignExpr (a ∷ o ∷ e ∷ d ∷ []))) (Tree kind.AssignExpr us) (stripped_of_tree kind.AssignExpr (a ∷ o ∷ e ∷ d ∷ []))
     (full_alone (Tree kind.AssignExpr us) (parts_of_tree kind.AssignExpr us) (ap has_some (effects_of_tree kind.AssignExpr us)))
-filled_row kind.Class x l g f r h = absurd (cc)
+filled_row kind.Class x l g f r h = absurd (true≢false (sym g))
 filled_row k {ts = ts} x l g f r h =
     moved (stripped (Tree k ts)) (Tree k (map stripped ts)) (stripped_other k ts refl) (full_alone (Tree k (map stripped ts)) (parts_of_tree k (map stripped ts)) (ap has_some (effects_of_tree k (map stripped ts))))
 

@@ -1,5 +1,5 @@
 -- The second step sets pairs, and nothing else.
-use Rattle.std.proofs.Common.{◌≡◌, Bool, true, false, not, ◌&&◌, ◌||◌, IsTrue, List, [], ◌∷◌, map, refl, sym, ap, ◌∙◌, rules}
+use Rattle.std.proofs.Common.{◌≡◌, Bool, true, false, not, ◌&&◌, ◌||◌, IsTrue, List, [], ◌∷◌, map, refl, sym, ap, ◌∙◌, rules, true≢false}
 use Rattle.std.specs.Prelude.{if◌then◌else◌}
 use Rattle.std.specs.List.{list_all}
 use Rattle.swc_tree_marks.specs.declared.ident.Ident.{Ident}
@@ -146,7 +146,7 @@ async_set p w t = by_children (λ t. Sets a_head t (async_in p w t (out-Node t))
 -- strings get no pair
 bare_row : (p : Places) (b : Bool) (k : Kind) (ts : List Node) → is_some (literal_in (Node-F.Tree k ts)) ≡ true → has_kind is_paren (in_step p (Node-F.Tree k (map (heading p) ts)) b) ≡ false
 bare_row p b kind.Str ts h = search (rules, the_lemmas)
-bare_row p b k ts h = absurd (cc)
+bare_row p b k ts h = absurd (true≢false (sym h))
 
 heads_bare : (p : Places) (b : Bool) (t : Node) → is_string t ≡ true → has_kind is_paren (heading p t b) ≡ false
 heads_bare p b t = by_children (λ t. is_string t ≡ true → has_kind is_paren (heading p t b) ≡ false)

@@ -1,5 +1,5 @@
 -- What the first step makes of one place is the same with pairs.
-use Rattle.std.proofs.Common.{◌≡◌, ℕ, Bool, true, false, not, ◌&&◌, ◌||◌, IsTrue, List, [], ◌∷◌, map, refl, sym, ap, ◌∙◌, rules}
+use Rattle.std.proofs.Common.{◌≡◌, ℕ, Bool, true, false, not, ◌&&◌, ◌||◌, IsTrue, List, [], ◌∷◌, map, refl, sym, ap, ◌∙◌, rules, true≢false}
 use Rattle.std.specs.Prelude.{nat_le, if◌then◌else◌}
 use Rattle.std.specs.List.{list_all}
 use Rattle.swc_tree_node.specs.declared.kind.Kind.{Kind}
@@ -164,7 +164,7 @@ called_row : (k : Kind) (ts : List Node) → called_step (Node-F.Tree k (map is_
 called_row kind.CallExpr ts h = refl
 called_row kind.MemberExpr (s ∷ o ∷ m ∷ []) h = rw h refl
 called_row kind.TaggedTpl (s ∷ o ∷ m ∷ []) h = rw h refl
-called_row k ts h = absurd (cc)
+called_row k ts h = absurd (true≢false (sym h))
 
 no_call : (t : Node) → is_called t ≡ false → is_called t ≡ true → at_least 18 t ≡ false
 no_call t e h = absurd (cc)

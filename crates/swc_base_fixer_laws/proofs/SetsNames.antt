@@ -1,5 +1,5 @@
 -- What the reader's table names may get a pair.
-use Rattle.std.proofs.Common.{◌≡◌, Bool, true, false, ◌&&◌, ◌||◌, IsTrue, List, [], ◌∷◌, refl, sym, ◌∙◌, rules}
+use Rattle.std.proofs.Common.{◌≡◌, Bool, true, false, ◌&&◌, ◌||◌, IsTrue, List, [], ◌∷◌, refl, sym, ◌∙◌, rules, true≢false}
 use Rattle.std.specs.Prelude.{Option}
 use Rattle.swc_tree_node.specs.declared.kind.Kind.{Kind}
 use Rattle.swc_tree_node.specs.declared.kind.Kind.TheVariants as kind
@@ -38,11 +38,11 @@ of_kind q c t = by_children (λ t. has_kind q t ≡ true → IsTrue (pairable t)
 odd_object : (k : Kind) → is_odd_object k ≡ true → can_pair k ≡ true
 odd_object kind.FnExpr h = refl
 odd_object kind.ClassExpr h = refl
-odd_object k h = absurd (cc)
+odd_object k h = absurd (true≢false (sym h))
 
 function_kind : (k : Kind) → is_function k ≡ true → can_pair k ≡ true
 function_kind kind.FnExpr h = refl
-function_kind k h = absurd (cc)
+function_kind k h = absurd (true≢false (sym h))
 
 odd_callee : (k : Kind) → is_odd_callee k ≡ true → can_pair k ≡ true
 odd_callee kind.Bool h = refl
@@ -51,7 +51,7 @@ odd_callee kind.BigInt h = refl
 odd_callee kind.Regex h = refl
 odd_callee kind.ClassExpr h = refl
 odd_callee kind.ObjectLit h = refl
-odd_callee k h = absurd (cc)
+odd_callee k h = absurd (true≢false (sym h))
 
 literal_kind : (k : Kind) → is_literal k ≡ true → can_pair k ≡ true
 literal_kind kind.Str h = refl
@@ -60,32 +60,32 @@ literal_kind kind.Null h = refl
 literal_kind kind.Number h = refl
 literal_kind kind.BigInt h = refl
 literal_kind kind.Regex h = refl
-literal_kind k h = absurd (cc)
+literal_kind k h = absurd (true≢false (sym h))
 
 object_kind : (k : Kind) → is_object k ≡ true → can_pair k ≡ true
 object_kind kind.ObjectLit h = refl
-object_kind k h = absurd (cc)
+object_kind k h = absurd (true≢false (sym h))
 
 class_kind : (k : Kind) → is_class k ≡ true → can_pair k ≡ true
 class_kind kind.ClassExpr h = refl
-class_kind k h = absurd (cc)
+class_kind k h = absurd (true≢false (sym h))
 
 yield_kind : (k : Kind) → is_yield k ≡ true → can_pair k ≡ true
 yield_kind kind.YieldExpr h = refl
-yield_kind k h = absurd (cc)
+yield_kind k h = absurd (true≢false (sym h))
 
 arrow_kind : (k : Kind) → is_arrow k ≡ true → can_pair k ≡ true
 arrow_kind kind.ArrowExpr h = refl
-arrow_kind k h = absurd (cc)
+arrow_kind k h = absurd (true≢false (sym h))
 
 await_kind : (k : Kind) → is_await k ≡ true → can_pair k ≡ true
 await_kind kind.AwaitExpr h = refl
-await_kind k h = absurd (cc)
+await_kind k h = absurd (true≢false (sym h))
 
 -- assignments to patterns
 assigns_row : (q : Kind → Bool) (k : Kind) (ts : List Node) → assigns_in q (Node-F.Tree k ts) ≡ true → can_pair k ≡ true
 assigns_row q kind.AssignExpr ts h = refl
-assigns_row q k ts h = absurd (cc)
+assigns_row q k ts h = absurd (true≢false (sym h))
 
 no_assigning : (q : Kind → Bool) (t : Node) → assigns_to q t ≡ false → assigns_to q t ≡ true → IsTrue (pairable t)
 no_assigning q t e h = absurd (cc)
@@ -99,7 +99,7 @@ assigning q t = by_children (λ t. assigns_to q t ≡ true → IsTrue (pairable 
 -- `delete` and `void` on the left of an operator
 unary_row : (op : Option Word') (k : Kind) (ts : List Node) → odd_unary op (unary_word_in (Node-F.Tree k ts)) ≡ true → can_pair k ≡ true
 unary_row op kind.UnaryExpr ts h = refl
-unary_row op k ts h = absurd (cc)
+unary_row op k ts h = absurd (true≢false (sym h))
 
 no_dropping : (op : Option Word') (t : Node) → odd_unary op (unary_word_in (out-Node t)) ≡ false → odd_unary op (unary_word_in (out-Node t)) ≡ true → IsTrue (pairable t)
 no_dropping op t e h = absurd (cc)

@@ -1,5 +1,5 @@
 -- The first step sets pairs, and nothing else.
-use Rattle.std.proofs.Common.{◌≡◌, Bool, true, false, IsTrue, List, [], ◌∷◌, map, refl, sym, ◌∙◌, rules}
+use Rattle.std.proofs.Common.{◌≡◌, Bool, true, false, IsTrue, List, [], ◌∷◌, map, refl, sym, ◌∙◌, rules, true≢false}
 use Rattle.std.specs.Prelude.{is_some}
 use Rattle.swc_tree_node.specs.declared.kind.Kind.{Kind}
 use Rattle.swc_tree_node.specs.declared.kind.Kind.TheVariants as kind
@@ -62,11 +62,11 @@ sequence_set p s t = by_children (λ t. Fits t s → Sets s t (sequence_statemen
 
 -- strings get no pair
 pub string_bare : (k : Kind) (ts : List Node) → is_some (literal_in (Node-F.Tree k ts)) ≡ true → is_paren k ≡ false
-string_bare kind.ParenExpr ts h = absurd (cc)
+string_bare kind.ParenExpr ts h = absurd (true≢false (sym h))
 string_bare k ts h = refl
 
 sequence_bare_row : (p : Places) (k : Kind) (ts : List Node) → is_some (literal_in (Node-F.Tree k ts)) ≡ true → has_kind is_paren (sequence_statement p (Tree k ts) (Node-F.Tree k ts)) ≡ false
-sequence_bare_row p kind.SeqExpr (a ∷ e ∷ []) h = absurd (cc)
+sequence_bare_row p kind.SeqExpr (a ∷ e ∷ []) h = absurd (true≢false (sym h))
 sequence_bare_row p k ts h = kind_of_tree is_paren k ts ∙ string_bare k ts h
 
 pub no_string : (t : Node) → is_string t ≡ false → {A : Type 0} → is_string t ≡ true → A
@@ -80,7 +80,7 @@ sequence_bare p t = by_children (λ t. is_string t ≡ true → has_kind is_pare
 
 bare_row : (p : Places) (b : Bool) (k : Kind) (ts : List Node) → is_some (literal_in (Node-F.Tree k ts)) ≡ true → has_kind is_paren (level_step p (Node-F.Tree k (map (pairing p) ts)) b) ≡ false
 bare_row p b kind.Str ts h = search (rules, the_lemmas)
-bare_row p b k ts h = absurd (cc)
+bare_row p b k ts h = absurd (true≢false (sym h))
 
 level_bare : (p : Places) (b : Bool) (t : Node) → is_string t ≡ true → has_kind is_paren (pairing p t b) ≡ false
 level_bare p b t = by_children (λ t. is_string t ≡ true → has_kind is_paren (pairing p t b) ≡ false)

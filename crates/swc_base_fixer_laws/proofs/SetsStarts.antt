@@ -1,5 +1,5 @@
 -- The pair round what comes first is one of the pairs that may be set.
-use Rattle.std.proofs.Common.{◌≡◌, Bool, true, false, ◌&&◌, IsTrue, List, [], ◌∷◌, map, refl, sym, ap, ◌∙◌, rules}
+use Rattle.std.proofs.Common.{◌≡◌, Bool, true, false, ◌&&◌, IsTrue, List, [], ◌∷◌, map, refl, sym, ap, ◌∙◌, rules, true≢false}
 use Rattle.std.specs.Prelude.{if◌then◌else◌}
 use Rattle.swc_tree_node.specs.declared.kind.Kind.{Kind}
 use Rattle.swc_tree_node.specs.declared.kind.Kind.TheVariants as kind
@@ -109,7 +109,7 @@ row p q kind.ObjectPat ts l x w a h b = absurd (cc (sym (kind_of_tree is_object_
 row p q kind.ClassExpr ts l x w a h b = whole_tree p q kind.ClassExpr ts refl b
 row p q kind.FnExpr ts l x w a h b = whole_tree p q kind.FnExpr ts refl b
 row p q kind.Function ts l x w a h b = absurd (cc (sym w.0 ∙ (tree_opens kind.Function ts q x).1))
-row p q k ts l x w a h b = absurd (cc)
+row p q k ts l x w a h b = absurd (true≢false (sym h))
 
 -- every node
 no_one : (p : Places) (t : Node) → blocked (start t) ≡ false → First p t

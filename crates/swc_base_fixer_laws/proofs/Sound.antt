@@ -1,5 +1,5 @@
 -- A tree that can be written down can be with pairs set in it.
-use Rattle.std.proofs.Common.{◌≡◌, Bool, true, false, not, ◌&&◌, ◌||◌, IsTrue, List, [], ◌∷◌, map, refl, sym, ap, ◌∙◌, rules}
+use Rattle.std.proofs.Common.{◌≡◌, Bool, true, false, not, ◌&&◌, ◌||◌, IsTrue, List, [], ◌∷◌, map, refl, sym, ap, ◌∙◌, rules, true≢false}
 use Rattle.std.specs.Prelude.{suc, nat_le, nat_eq, length, if◌then◌else◌}
 use Rattle.std.specs.List.{list_all}
 use Rattle.swc_tree_marks.specs.declared.span.Span.{Span as Range}
@@ -227,16 +227,16 @@ row kind.Script e (also_kept a _ _ (also_kept {t = t} {u = u} c f x (also_kept d
     let p = half h in
     also (at (λ t. list_all (λ t. not (is_using t)) (items_of t)) c (no_using_kept c) p.0)
     (ap (λ b. sound u (strictly b r)) (same_at (λ t. has_use_strict (items_of t)) c (strict_list c)) ∙ x.keeps (strictly (has_use_strict (items_of (asked t).whole)) r) p.1)
-row kind.TsInterfaceDecl e d r h = absurd (cc)
-row kind.TsTypeAliasDecl e d r h = absurd (cc)
-row kind.TsEnumDecl e d r h = absurd (cc)
-row kind.TsModuleDecl e d r h = absurd (cc)
+row kind.TsInterfaceDecl e d r h = absurd (true≢false (sym h))
+row kind.TsTypeAliasDecl e d r h = absurd (true≢false (sym h))
+row kind.TsEnumDecl e d r h = absurd (true≢false (sym h))
+row kind.TsModuleDecl e d r h = absurd (true≢false (sym h))
 row k e d r h = all d (binding r) h
 
 head_row : (k : Kind) {ts us : List Node} → Kept (slots_of k) ts us → (r : Round) → in_head_in (Node-F.Tree k (map asked ts)) r ≡ true → in_head_in (Node-F.Tree k (map asked us)) r ≡ true
 head_row kind.VarDecl (also_kept a _ _ (also_kept c f x (also_kept d g y nought))) r h = let p = half h in also (at (λ t. one_bare (items_of t)) d (one_bare_kept d) p.0) (y.keeps (binding r) p.1)
 head_row kind.UsingDecl (also_kept a _ _ (also_kept c f x (also_kept d g y nought))) r h = let p = half h in let q = half p.1 in also (at (λ t. one_bare (items_of t)) d (one_bare_kept d) p.0) (also (at (λ t. are_named false (items_of t)) d (all_named false d) q.0) (y.keeps (binding r) q.1))
-head_row k d r h = absurd (cc)
+head_row k d r h = absurd (true≢false (sym h))
 
 -- a pair round an expression
 pair_sound : (x : Range) (u : Node) (r : Round) → no_private (asked u) ≡ true → sound u (binding r) ≡ true → sound (Tree kind.ParenExpr (Span x ∷ u ∷ [])) r ≡ true
@@ -245,8 +245,8 @@ pair_sound x u r h g =
     sound_tree kind.ParenExpr (Span x ∷ u ∷ []) r ∙ also_both (no_private (asked (Span x)) && sound (Span x) (binding r)) ((no_private (asked u) && sound u (binding r)) && true) e (also_both (no_private (asked u) && sound u (binding r)) true (also h g) refl)
 
 no_head_row : (k : Kind) (ts : List Node) → can_pair k ≡ true → (r : Round) → in_head_in (Node-F.Tree k (map asked ts)) r ≡ false
-no_head_row kind.VarDecl ts h r = absurd (cc)
-no_head_row kind.UsingDecl ts h r = absurd (cc)
+no_head_row kind.VarDecl ts h r = absurd (true≢false (sym h))
+no_head_row kind.UsingDecl ts h r = absurd (true≢false (sym h))
 no_head_row k ts h r = refl
 
 no_head : (t : Node) → IsTrue (pairable t) → (r : Round) → (asked t).in_head r ≡ false

@@ -1,5 +1,5 @@
 -- The third step sets pairs, and nothing else.
-use Rattle.std.proofs.Common.{◌≡◌, Bool, true, false, List, [], ◌∷◌, map, refl, rules, sym, ◌∙◌}
+use Rattle.std.proofs.Common.{◌≡◌, Bool, true, false, List, [], ◌∷◌, map, refl, rules, sym, ◌∙◌, true≢false}
 use Rattle.std.specs.Prelude.{if◌then◌else◌}
 use Rattle.swc_tree_node.specs.declared.kind.Kind.{Kind}
 use Rattle.swc_tree_node.specs.declared.kind.Kind.TheVariants as kind
@@ -73,7 +73,7 @@ body_if false p e f = returned_if (may_begin_body (start e)) p e f refl
 -- strings get no pair
 string_start_row : (k : Kind) (ts : List Node) → is_some (literal_in (Node-F.Tree k ts)) ≡ true → start (Tree k ts) ≡ Other
 string_start_row kind.Str ts h = search (rules, the_lemmas)
-string_start_row k ts h = absurd (cc)
+string_start_row k ts h = absurd (true≢false (sym h))
 
 string_start : (t : Node) → is_string t ≡ true → (start t ≡ Other) × (has_kind is_paren t ≡ false)
 string_start t = by_children (λ t. is_string t ≡ true → (start t ≡ Other) × (has_kind is_paren t ≡ false))
@@ -86,7 +86,7 @@ begun_bare p e h = let q = string_start e h in rw (q.0) q.1
 
 bare_row : (p : Places) (k : Kind) (ts : List Node) → is_some (literal_in (Node-F.Tree k ts)) ≡ true → has_kind is_paren (begin_step p (Node-F.Tree k (map (paired_at_starts p) ts))) ≡ false
 bare_row p kind.Str ts h = search (rules, the_lemmas)
-bare_row p k ts h = absurd (cc)
+bare_row p k ts h = absurd (true≢false (sym h))
 
 starts_bare : (p : Places) (t : Node) → is_string t ≡ true → has_kind is_paren (paired_at_starts p t) ≡ false
 starts_bare p t = by_children (λ t. is_string t ≡ true → has_kind is_paren (paired_at_starts p t) ≡ false)

@@ -1,5 +1,5 @@
 -- Of a statement the same is asked where names are bound and where they are assigned to.
-use Rattle.std.proofs.Common.{◌≡◌, true, false, not, ◌&&◌, List, [], ◌∷◌, map, refl, sym, ap, ◌∙◌, rules}
+use Rattle.std.proofs.Common.{◌≡◌, true, false, not, ◌&&◌, List, [], ◌∷◌, map, refl, sym, ap, ◌∙◌, rules, true≢false}
 use Rattle.std.specs.Prelude.{if◌then◌else◌}
 use Rattle.swc_tree_marks.specs.declared.ident.Ident.{Ident}
 use Rattle.swc_tree_node.specs.declared.kind.Kind.{Kind}
@@ -33,7 +33,7 @@ Bound t = (r : Round) → sound t r ≡ true → sound t (binding r) ≡ true
 -- declarators
 declarator_row : (k : Kind) {ts us : List Node} → FieldsSet (slots_of k) ts us → belongs k class.VarDeclarator ≡ true → (r : Round) → sound_in (Node-F.Tree k (map asked ts)) r ≡ true → sound_in (Node-F.Tree k (map asked ts)) (binding r) ≡ true
 declarator_row kind.VarDeclarator (field a (field b (field c nil))) g r h = h
-declarator_row k x g r h = absurd (cc)
+declarator_row k x g r h = absurd (true≢false (sym g))
 
 name_only_declarator : (k : Kind) → (is_identifier k && belongs k class.VarDeclarator) ≡ false
 name_only_declarator kind.Ident = refl
@@ -66,7 +66,7 @@ sound_name : (k : Kind) (i : Ident) (r : Round) → sound (Identifier k i) r ≡
 sound_name k i r = search (rules, the_lemmas)
 
 label_row : (k : Kind) (i : Ident) (r : Round) → (is_identifier k && belongs k class.Ident) ≡ true → sound_in (Node-F.Identifier k i) r ≡ true → sound_in (Node-F.Identifier k i) (binding r) ≡ true
-label_row kind.BindingIdent i r g h = absurd (cc)
+label_row kind.BindingIdent i r g h = absurd (true≢false (sym g))
 label_row k i r g h = h
 
 label_tree : (k : Kind) → (not (is_identifier k) && belongs k class.Ident) ≡ false
@@ -133,7 +133,11 @@ row kind.ContinueStmt x l g f r h = h
 row kind.SwitchStmt x l g f r h = h
 row kind.ThrowStmt x l g f r h = h
 row kind.TryStmt x l g f r h = h
-row k x l g f r h = absurd (cc)
+row kind.TsInterfaceDecl x l g f r h = absurd (true≢false (sym h))
+row kind.TsTypeAliasDecl x l g f r h = absurd (true≢false (sym h))
+row kind.TsEnumDecl x l g f r h = absurd (true≢false (sym h))
+row kind.TsModuleDecl x l g f r h = absurd (true≢false (sym h))
+row k x l g f r h = absurd (true≢false (sym g))
 
 absent_bound : (r : Round) → sound Absent (binding r) ≡ true
 absent_bound r = search (rules, the_lemmas)

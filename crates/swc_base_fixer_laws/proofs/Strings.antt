@@ -1,5 +1,5 @@
 -- A string that is a statement stays one.
-use Rattle.std.proofs.Common.{◌≡◌, Bool, true, false, List, [], ◌∷◌, refl, sym, ap, ◌∙◌, rules}
+use Rattle.std.proofs.Common.{◌≡◌, Bool, true, false, List, [], ◌∷◌, refl, sym, ap, ◌∙◌, rules, true≢false}
 use Rattle.std.specs.Prelude.{is_some}
 use Rattle.swc_tree_marks.specs.declared.ident.Ident.{Ident}
 use Rattle.swc_tree_node.specs.declared.kind.Kind.{Kind}
@@ -71,7 +71,7 @@ string_kept {s = s} (tree k ts us e d) f h = string_of_tree k us ∙ ap is_some 
 -- a pair is no string
 paren_row : (k : Kind) (ts : List Node) → is_paren k ≡ true → is_some (literal_in (Node-F.Tree k ts)) ≡ false
 paren_row kind.ParenExpr ts h = refl
-paren_row k ts h = absurd (cc)
+paren_row k ts h = absurd (true≢false (sym h))
 
 no_paren : (t : Node) → has_kind is_paren t ≡ false → has_kind is_paren t ≡ true → is_string t ≡ false
 no_paren t e h = absurd (cc)

@@ -1,5 +1,5 @@
 -- A tree that can be written down can be once it is stripped.
-use Rattle.std.proofs.Common.{◌≡◌, ℕ, Bool, true, false, IsTrue, not, ◌||◌, Option, None, Some, List, [], ◌∷◌, map, refl, sym, ap, ◌∙◌, rules, subst}
+use Rattle.std.proofs.Common.{◌≡◌, ℕ, Bool, true, false, IsTrue, not, ◌||◌, Option, None, Some, List, [], ◌∷◌, map, refl, sym, ap, ◌∙◌, rules, subst, true≢false}
 use Rattle.std.specs.Prelude.{is_some}
 use Rattle.std.specs.List.{list_all, filter}
 use Rattle.swc_tree_marks.specs.declared.ident.Ident.{Ident}
@@ -85,7 +85,7 @@ simple_row : (k : Kind) (ts : List Node) → is_simple k ≡ true → is_target 
 simple_row kind.Ident ts h = target_of_tree kind.Ident ts
 simple_row kind.MemberExpr ts h = target_of_tree kind.MemberExpr ts
 simple_row kind.SuperPropExpr ts h = target_of_tree kind.SuperPropExpr ts
-simple_row k ts h = absurd (cc)
+simple_row k ts h = absurd (true≢false (sym h))
 
 target_name : (k : Kind) (i : Ident) → is_target (Identifier k i) ≡ is_simple k
 target_name k i = search (rules, the_lemmas)
@@ -112,7 +112,7 @@ no_string true b e h = absurd (no (sym e ∙ h))
 no_string false b e h = refl
 
 special_string : (k : Kind) (ts : List Node) → is_special k ≡ true → literal_in (Node-F.Tree k ts) ≡ None
-special_string kind.Str ts h = absurd (cc)
+special_string kind.Str ts h = absurd (true≢false (sym h))
 special_string k ts h = refl
 
 text_left : (k : Kind) (ts : List Node) → is_special k ≡ true → stays_string (Tree k ts) ≡ true → literal_in (out-Node (stripped (Tree k ts))) ≡ literal_in (out-Node (Tree k ts))

@@ -1,5 +1,5 @@
 -- Pairs keep a tree calm: no arrow that returns an expression comes to begin it with an assignment to an object pattern.
-use Rattle.std.proofs.Common.{◌≡◌, Bool, true, false, not, ◌||◌, IsTrue, List, [], ◌∷◌, map, refl, sym, ap, ◌∙◌, rules}
+use Rattle.std.proofs.Common.{◌≡◌, Bool, true, false, not, ◌||◌, IsTrue, List, [], ◌∷◌, map, refl, sym, ap, ◌∙◌, rules, true≢false}
 use Rattle.std.specs.List.{list_all}
 use Rattle.swc_tree_node.specs.declared.kind.Kind.{Kind}
 use Rattle.swc_tree_node.specs.declared.kind.Kind.TheVariants as kind
@@ -34,7 +34,7 @@ calmer_then c d = record { block = λ h. d.block (c.block h); pattern = λ h. d.
 
 -- a pair
 no_block_row : (k : Kind) → can_pair k ≡ true → is_block k ≡ false
-no_block_row kind.BlockStmt h = absurd (cc)
+no_block_row kind.BlockStmt h = absurd (true≢false (sym h))
 no_block_row k h = refl
 
 no_block : (t : Node) → IsTrue (pairable t) → has_kind is_block t ≡ false

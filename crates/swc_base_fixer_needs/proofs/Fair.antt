@@ -1,5 +1,5 @@
 -- In a tree of the table no pair stands where the grammar does not look, and lists are lists.
-use Rattle.std.proofs.Common.{◌≡◌, Bool, true, false, not, ◌&&◌, ◌||◌, ◌==◌, IsTrue, List, [], ◌∷◌, map, refl, sym, ◌∙◌, rules}
+use Rattle.std.proofs.Common.{◌≡◌, Bool, true, false, not, ◌&&◌, ◌||◌, ◌==◌, IsTrue, List, [], ◌∷◌, map, refl, sym, ◌∙◌, rules, true≢false}
 use Rattle.std.specs.List.{list_any, list_all}
 use Rattle.swc_tree_node.specs.declared.kind.Kind.{Kind}
 use Rattle.swc_tree_node.specs.declared.kind.Kind.TheVariants as kind
@@ -47,8 +47,8 @@ key_row kind.IdentName ts b n f = quiet_parts (slots_of kind.IdentName) ts refl 
 key_row kind.Str ts b n f = quiet_parts (slots_of kind.Str) ts refl f
 key_row kind.Number ts b n f = quiet_parts (slots_of kind.Number) ts refl f
 key_row kind.BigInt ts b n f = quiet_parts (slots_of kind.BigInt) ts refl f
-key_row kind.ComputedPropName ts b n f = absurd (cc)
-key_row k ts b n f = absurd (cc)
+key_row kind.ComputedPropName ts b n f = absurd (true≢false n)
+key_row k ts b n f = absurd (true≢false (sym b))
 
 not_true : (b : Bool) → not b ≡ true → b ≡ false
 not_true true h = absurd (cc)

@@ -1,5 +1,5 @@
 -- Each pair has a reason where a pair is set round the innermost expression that a node begins with: one node.
-use Rattle.std.proofs.Common.{◌≡◌, Bool, true, false, ◌&&◌, ◌||◌, List, [], ◌∷◌, map, refl, sym, ap, subst, ◌∙◌, rules}
+use Rattle.std.proofs.Common.{◌≡◌, Bool, true, false, ◌&&◌, ◌||◌, List, [], ◌∷◌, map, refl, sym, ap, subst, ◌∙◌, rules, true≢false}
 use Rattle.std.specs.Prelude.{if◌then◌else◌}
 use Rattle.swc_tree_node.specs.declared.kind.Kind.{Kind}
 use Rattle.swc_tree_node.specs.declared.kind.Kind.TheVariants as kind
@@ -129,7 +129,7 @@ is_pair p t = kind_of_tree is_paren kind.ParenExpr (Span (p (span_of t)) ∷ t �
 
 pattern_row : (p : Places) (k : Kind) (ts : List Node) → is_object_pattern k ≡ true → has_kind is_paren (first_in p (Tree k ts) (Node-F.Tree k (map (spined p) ts))) ≡ true
 pattern_row p kind.ObjectPat ts h = is_pair p (Tree kind.ObjectPat ts)
-pattern_row p k ts h = absurd (cc)
+pattern_row p k ts h = absurd (true≢false (sym h))
 
 no_pattern : (p : Places) (t : Node) → has_kind is_object_pattern t ≡ false → has_kind is_object_pattern t ≡ true → has_kind is_paren (first_paired p t) ≡ true
 no_pattern p t e h = absurd (cc)

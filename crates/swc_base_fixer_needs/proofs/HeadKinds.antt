@@ -1,5 +1,5 @@
 -- Each pair has a reason after the second step: nodes that set pairs, and what heads hold.
-use Rattle.std.proofs.Common.{◌≡◌, Bool, true, false, not, ◌&&◌, ◌||◌, List, [], ◌∷◌, map, refl, sym, ap, subst, ◌∙◌, rules}
+use Rattle.std.proofs.Common.{◌≡◌, Bool, true, false, not, ◌&&◌, ◌||◌, List, [], ◌∷◌, map, refl, sym, ap, subst, ◌∙◌, rules, true≢false}
 use Rattle.std.specs.Prelude.{if◌then◌else◌}
 use Rattle.swc_tree_node.specs.declared.kind.Kind.{Kind}
 use Rattle.swc_tree_node.specs.declared.kind.Kind.TheVariants as kind
@@ -77,7 +77,7 @@ bin p l a s q t u f w x o y v h = bin_if (is_in (word_of (heading p q true)) && 
 -- arrows
 block_row : (p : Places) (k : Kind) (ts : List Node) (v : Bool) → is_block k ≡ true → headed p k ts v ≡ headed p k ts true
 block_row p kind.BlockStmt ts v h = refl
-block_row p k ts v h = absurd (cc)
+block_row p k ts v h = absurd (true≢false (sym h))
 
 no_block : (p : Places) (t : Node) (v : Bool) → has_kind is_block t ≡ false → has_kind is_block t ≡ true → heading p t v ≡ heading p t true
 no_block p t v e h = absurd (cc)

@@ -1,5 +1,5 @@
 -- Each pair of the first step has a reason: what `new` calls, statements, and every node.
-use Rattle.std.proofs.Common.{◌≡◌, Bool, true, false, not, ◌||◌, List, [], ◌∷◌, map, refl, sym, ap, subst, ◌∙◌, rules}
+use Rattle.std.proofs.Common.{◌≡◌, Bool, true, false, not, ◌||◌, List, [], ◌∷◌, map, refl, sym, ap, subst, ◌∙◌, rules, true≢false}
 use Rattle.std.specs.Prelude.{nat_le, if◌then◌else◌}
 use Rattle.std.specs.List.{list_all}
 use Rattle.swc_tree_node.specs.declared.kind.Kind.{Kind}
@@ -41,7 +41,7 @@ called_row : (k : Kind) (ts : List Node) → called_step (Node-F.Tree k (map is_
 called_row kind.CallExpr ts h = refl
 called_row kind.MemberExpr (s ∷ o ∷ m ∷ []) h = rw h refl
 called_row kind.TaggedTpl (s ∷ o ∷ m ∷ []) h = rw h refl
-called_row k ts h = absurd (cc)
+called_row k ts h = absurd (true≢false (sym h))
 
 no_call : (t : Node) → is_called t ≡ false → is_called t ≡ true → at_least 18 t ≡ false
 no_call t e h = absurd (cc)
@@ -204,7 +204,7 @@ each_level p [] q n = tt
 each_level p (t ∷ ts) q n = let m = both (is_pairless t) (list_all is_pairless ts) n in (q.0 m.0, each_level p ts q.1 m.1)
 
 no_paren : (k : Kind) (bs : List Bool) → pairless_step (Node-F.Tree k bs) ≡ true → is_paren k ≡ false
-no_paren kind.ParenExpr bs h = absurd (cc)
+no_paren kind.ParenExpr bs h = absurd (true≢false (sym h))
 no_paren k bs h = refl
 
 pairless_tree : (k : Kind) (ts : List Node) → is_pairless (Tree k ts) ≡ pairless_step (Node-F.Tree k (map is_pairless ts))

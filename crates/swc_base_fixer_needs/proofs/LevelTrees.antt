@@ -1,5 +1,5 @@
 -- Each pair of the first step has a reason: trees.
-use Rattle.std.proofs.Common.{◌≡◌, Bool, true, false, not, ◌&&◌, ◌||◌, List, [], ◌∷◌, map, refl, sym, ap, ◌∙◌, rules}
+use Rattle.std.proofs.Common.{◌≡◌, Bool, true, false, not, ◌&&◌, ◌||◌, List, [], ◌∷◌, map, refl, sym, ap, ◌∙◌, rules, true≢false}
 use Rattle.std.specs.Prelude.{if◌then◌else◌}
 use Rattle.std.specs.List.{list_all}
 use Rattle.swc_tree_node.specs.declared.kind.Kind.{Kind}
@@ -107,20 +107,20 @@ is_usual kind.OptChainExpr = false
 is_usual k = true
 
 no_paren : (k : Kind) → is_usual k ≡ true → is_paren k ≡ false
-no_paren kind.ParenExpr h = absurd (cc)
+no_paren kind.ParenExpr h = absurd (true≢false (sym h))
 no_paren k h = refl
 
 no_sequence : (k : Kind) → is_usual k ≡ true → is_sequence k ≡ false
-no_sequence kind.SeqExpr h = absurd (cc)
+no_sequence kind.SeqExpr h = absurd (true≢false (sym h))
 no_sequence k h = refl
 
 no_chain : (k : Kind) (ts : List Node) → is_usual k ≡ true → is_chain_shape (Node-F.Tree k ts) ≡ false
-no_chain kind.OptChainExpr ts h = absurd (cc)
+no_chain kind.OptChainExpr ts h = absurd (true≢false (sym h))
 no_chain k ts h = refl
 
 pub usual_labels : (l : Label) (k : Kind) (ts : List Node) → is_usual k ≡ true → labels l (Node-F.Tree k ts) ≡ field_labels (named_in (Node-F.Tree k ts)) ts
-usual_labels l kind.ExprStmt ts h = absurd (cc)
-usual_labels l kind.SeqExpr ts h = absurd (cc)
+usual_labels l kind.ExprStmt ts h = absurd (true≢false (sym h))
+usual_labels l kind.SeqExpr ts h = absurd (true≢false (sym h))
 usual_labels l k ts h = refl
 
 pub usual : (p : Places) (l : Label) (a : Site) (k : Kind) (ts : List Node) → Each (Leveled p) ts → is_usual k ≡ true

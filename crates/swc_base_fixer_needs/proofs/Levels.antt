@@ -1,5 +1,5 @@
 -- Each pair of the first step has a reason: one place.
-use Rattle.std.proofs.Common.{◌≡◌, ℕ, Bool, true, false, not, ◌||◌, IsTrue, List, [], ◌∷◌, map, refl, sym, ap, subst, ◌∙◌, rules}
+use Rattle.std.proofs.Common.{◌≡◌, ℕ, Bool, true, false, not, ◌||◌, IsTrue, List, [], ◌∷◌, map, refl, sym, ap, subst, ◌∙◌, rules, true≢false}
 use Rattle.std.specs.Prelude.{nat_le, None}
 use Rattle.swc_tree_node.specs.declared.kind.Kind.{Kind}
 use Rattle.swc_tree_node.specs.declared.kind.Kind.TheVariants as kind
@@ -29,7 +29,7 @@ use Rattle.swc_base_fixer_needs.proofs.Paths.{clue_of_tree}
 
 -- what gets a pair looks like one
 no_block : (k : Kind) → can_pair k ≡ true → is_block k ≡ false
-no_block kind.BlockStmt h = absurd (cc)
+no_block kind.BlockStmt h = absurd (true≢false (sym h))
 no_block k h = refl
 
 not_paired : (t : Node) → pairable t ≡ false → IsTrue (pairable t) → clue t ≡ blank
@@ -124,7 +124,7 @@ list_level n p f a ts h d u = many (map (to_level n p) ts) (all_level n p a ts h
 
 -- the items of a sequence that is a statement
 odd_tree : (k : Kind) (ts : List Node) → (is_object k || (is_class k || assigns_in is_object_pattern (Node-F.Tree k ts))) ≡ true → is_block k ≡ false
-odd_tree kind.BlockStmt ts h = absurd (cc)
+odd_tree kind.BlockStmt ts h = absurd (true≢false (sym h))
 odd_tree k ts h = refl
 
 not_odd : (t : Node) → is_odd_item t ≡ false → is_odd_item t ≡ true → clue t ≡ blank

@@ -1,5 +1,5 @@
 -- A pair at a path: where there is none, and what is left of a node without it.
-use Rattle.std.proofs.Common.{◌≡◌, ℕ, zero, suc, Bool, true, false, ◌&&◌, List, [], ◌∷◌, map, refl, sym, ap, ◌∙◌, rules}
+use Rattle.std.proofs.Common.{◌≡◌, ℕ, zero, suc, Bool, true, false, ◌&&◌, List, [], ◌∷◌, map, refl, sym, ap, ◌∙◌, rules, true≢false}
 use Rattle.std.specs.Prelude.{Option, Some, None, is_some, slice_get}
 use Rattle.std.specs.List.{list_all}
 use Rattle.swc_tree_node.specs.declared.kind.Kind.{Kind}
@@ -28,7 +28,7 @@ each_pairless [] = refl
 each_pairless (t ∷ ts) = ap (λ b. is_pairless t && b) (each_pairless ts)
 
 parts_in : (k : Kind) (bs : List Bool) → pairless_step (Node-F.Tree k bs) ≡ true → list_all (λ b. b) bs ≡ true
-parts_in kind.ParenExpr bs h = absurd (cc)
+parts_in kind.ParenExpr bs h = absurd (true≢false (sym h))
 parts_in k bs h = h
 
 pub parts_pairless : (k : Kind) (ts : List Node) → is_pairless (Tree k ts) ≡ true → list_all is_pairless ts ≡ true
@@ -38,7 +38,7 @@ pub items_pairless : (ts : List Node) → is_pairless (Many ts) ≡ true → lis
 items_pairless ts h = sym (each_pairless ts) ∙ sym (pairless_list ts) ∙ h
 
 bare_in : (k : Kind) (ts : List Node) → pairless_step (Node-F.Tree k (map is_pairless ts)) ≡ true → is_some (content_in (Node-F.Tree k ts)) ≡ false
-bare_in kind.ParenExpr ts h = absurd (cc)
+bare_in kind.ParenExpr ts h = absurd (true≢false (sym h))
 bare_in k ts h = refl
 
 no_pair_here : (t : Node) → is_pairless t ≡ true → is_pair t [] ≡ false

@@ -1,5 +1,5 @@
 -- In quiet places no pair stands, whatever fits there.
-use Rattle.std.proofs.Common.{◌≡◌, Bool, true, List, [], ◌∷◌, map, refl, ◌∙◌, rules}
+use Rattle.std.proofs.Common.{◌≡◌, Bool, true, List, [], ◌∷◌, map, refl, ◌∙◌, rules, sym, true≢false}
 use Rattle.std.specs.List.{list_all}
 use Rattle.swc_tree_node.specs.declared.kind.Kind.{Kind}
 use Rattle.swc_tree_node.specs.declared.kind.Kind.TheVariants as kind
@@ -13,7 +13,7 @@ use Rattle.swc_tree_grammar_laws.proofs.Levelled.{also}
 use Rattle.swc_base_fixer_laws.proofs.Quiet.{is_quiet, is_quiet_kind, quiet, quiet_fields}
 
 no_pair : (k : Kind) (bs : List Bool) → is_quiet_kind k ≡ true → pairless_step (Node-F.Tree k bs) ≡ list_all (λ b. b) bs
-no_pair kind.ParenExpr bs q = absurd (cc)
+no_pair kind.ParenExpr bs q = absurd (true≢false (sym q))
 no_pair k bs q = refl
 
 abbrev Pairless : Node → Type 0

@@ -1,5 +1,5 @@
 -- What stands where it is asked has its parts stand where they are asked: expressions, patterns, functions and classes.
-use Rattle.std.proofs.Common.{◌≡◌, Bool, true, false, ◌&&◌, ◌||◌, List, [], ◌∷◌, map, refl, sym, ap, ◌∙◌, rules}
+use Rattle.std.proofs.Common.{◌≡◌, Bool, true, false, ◌&&◌, ◌||◌, List, [], ◌∷◌, map, refl, sym, ap, ◌∙◌, rules, true≢false}
 use Rattle.std.specs.Prelude.{nat_le, Option, Some, if◌then◌else◌}
 use Rattle.swc_tree_node.specs.declared.kind.Kind.{Kind}
 use Rattle.swc_tree_node.specs.declared.kind.Kind.TheVariants as kind
@@ -61,7 +61,7 @@ begun_of = fold-Node Begun start_step
 -- sides of an operator
 private_tree : (k : Kind) (ts : List Node) → is_private_name k ≡ true → meets (AtLeast 10) (Tree k ts) ≡ true
 private_tree kind.PrivateName ts h = search (rules, the_lemmas)
-private_tree k ts h = absurd (cc)
+private_tree k ts h = absurd (true≢false (sym h))
 
 private_met : (t : Node) → has_kind is_private_name t ≡ true → meets (AtLeast 10) t ≡ true
 private_met t = by_children (λ t. has_kind is_private_name t ≡ true → meets (AtLeast 10) t ≡ true)
@@ -245,7 +245,7 @@ function s x b f w a g r h = let p = half h in (tt, (code x true (r || is_strict
 -- arrows
 block_tree : (k : Kind) (ts : List Node) → is_block k ≡ true → start_in (Tree k ts) (Node-F.Tree k (map begun_of ts)) ≡ Other
 block_tree kind.BlockStmt ts h = refl
-block_tree k ts h = absurd (cc)
+block_tree k ts h = absurd (true≢false (sym h))
 
 block_start : (t : Node) → has_kind is_block t ≡ true → start t ≡ Other
 block_start t = by_children (λ t. has_kind is_block t ≡ true → start t ≡ Other)

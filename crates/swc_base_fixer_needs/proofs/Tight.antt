@@ -1,6 +1,6 @@
 -- What binds at least as tightly as an assignment, and is none to a pattern, begins with no assignment to an object
 -- pattern.
-use Rattle.std.proofs.Common.{◌≡◌, ℕ, Bool, true, false, not, ◌&&◌, ◌||◌, Option, Some, None, List, [], ◌∷◌, map, refl, sym, ap, ◌∙◌, rules, arith, ◌≤◌}
+use Rattle.std.proofs.Common.{◌≡◌, ℕ, Bool, true, false, not, ◌&&◌, ◌||◌, Option, Some, None, List, [], ◌∷◌, map, refl, sym, ap, ◌∙◌, rules, arith, ◌≤◌, true≢false}
 use Rattle.std.specs.Prelude.{nat_le, if◌then◌else◌}
 use Rattle.std.specs.List.{list_all}
 use Rattle.std.proofs.lemmas.Bool.{leb-true, le-leb}
@@ -44,7 +44,7 @@ if_level false = refl
 
 -- an assignment has level 2
 assigns_row : (k : Kind) (ts : List Node) → nat_le 3 (level_in (Node-F.Tree k ts)) ≡ true → assigns_in is_destructuring (Node-F.Tree k ts) ≡ false
-assigns_row kind.AssignExpr ts h = absurd (cc)
+assigns_row kind.AssignExpr ts h = absurd (true≢false (sym h))
 assigns_row k ts h = refl
 
 assigns_tree : (k : Kind) (ts : List Node) → assigns_to is_destructuring (Tree k ts) ≡ assigns_in is_destructuring (Node-F.Tree k ts)
@@ -90,7 +90,7 @@ nullish_level None h = absurd (cc)
 nullish_row : (k : Kind) (ts : List Node) → nullish_in (Node-F.Tree k ts) ≡ true → nat_le 3 (level_in (Node-F.Tree k ts)) ≡ true
 nullish_row kind.BinExpr (s ∷ o ∷ f ∷ r ∷ []) h = nullish_level (word_of o) h
 nullish_row kind.BinExpr [] h = refl
-nullish_row k ts h = absurd (cc)
+nullish_row k ts h = absurd (true≢false (sym h))
 
 nullish_tight : (t : Node) → is_nullish t ≡ true → at_least 3 t ≡ true
 nullish_tight t = by_children (λ t. is_nullish t ≡ true → at_least 3 t ≡ true)

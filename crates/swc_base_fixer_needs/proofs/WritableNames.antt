@@ -1,5 +1,5 @@
 -- In a tree that can be written down each constructor has a name as its key.
-use Rattle.std.proofs.Common.{◌≡◌, Bool, true, false, not, List, map, refl, sym, ap, ◌∙◌, rules}
+use Rattle.std.proofs.Common.{◌≡◌, Bool, true, false, not, List, map, refl, sym, ap, ◌∙◌, rules, true≢false}
 use Rattle.std.specs.List.{list_all}
 use Rattle.swc_tree_marks.specs.declared.ident.Ident.{Ident}
 use Rattle.swc_tree_node.specs.declared.kind.Kind.{Kind}
@@ -24,12 +24,12 @@ use Rattle.swc_base_fixer_laws.proofs.Recasts.{tree_looks}
 use Rattle.swc_base_fixer_needs.specs.Keys.{is_computed, is_named_in, names_constructors}
 
 no_constructor : (k : Kind) (ts : List Node) → list_all is_quiet (slots_of k) ≡ true → is_named_in (Node-F.Tree k ts) ≡ true
-no_constructor kind.Constructor ts q = absurd (cc)
+no_constructor kind.Constructor ts q = absurd (true≢false (sym q))
 no_constructor k ts q = refl
 
 -- the key of a constructor is no computed name
 no_tree_computed : (k : Kind) (ts : List Node) → constructor_key_in (Node-F.Tree k ts) ≡ true → not (is_computed k) ≡ true
-no_tree_computed kind.ComputedPropName ts h = absurd (cc)
+no_tree_computed kind.ComputedPropName ts h = absurd (true≢false (sym h))
 no_tree_computed k ts h = refl
 
 of_identifier : (k : Kind) (i : Ident) → constructor_key_in (out-Node (Identifier k i)) ≡ true → not (has_kind is_computed (Identifier k i)) ≡ true
@@ -46,7 +46,7 @@ own_row kind.Constructor ts (more a _ (more {t = t} _ z (more _ x (more _ y none
 own_row k ts x r h = refl
 
 own_head_row : (k : Kind) (ts : List Node) (r : Round) → in_head_in (Node-F.Tree k (map asked ts)) r ≡ true → is_named_in (Node-F.Tree k ts) ≡ true
-own_head_row kind.Constructor ts r h = absurd (cc)
+own_head_row kind.Constructor ts r h = absurd (true≢false (sym h))
 own_head_row k ts r h = refl
 
 naming : Everywhere names_constructors (λ k ts. is_named_in (Node-F.Tree k ts))

@@ -1,5 +1,5 @@
 -- What is seen alike of a node and of one that is like it.
-use Rattle.std.proofs.Common.{◌≡◌, ℕ, zero, suc, Bool, true, false, ◌||◌, Some, List, [], ◌∷◌, ◌++◌, map, refl, sym, ap, ◌∙◌, subst, rules, inl, inr}
+use Rattle.std.proofs.Common.{◌≡◌, ℕ, zero, suc, Bool, true, false, ◌||◌, Some, List, [], ◌∷◌, ◌++◌, map, refl, sym, ap, ◌∙◌, subst, rules, inl, inr, true≢false}
 use Rattle.std.specs.Prelude.{if◌then◌else◌, is_some, slice_get}
 use Rattle.std.specs.List.{flat_map, list_any}
 use Rattle.swc_tree_marks.specs.declared.ident.Ident.{Ident}
@@ -128,7 +128,7 @@ module _ (m : Changes) where
       (Like.reexports false a c ts us xs ys d e h l f j)
 
   split_tree : (k : Kind) (ts : List Node) → is_left k ≡ true → split_in (Tree k ts) (Node-F.Tree k ts) ≡ Tree k ts ∷ []
-  split_tree kind.ExportDecl ts e = absurd (cc)
+  split_tree kind.ExportDecl ts e = absurd (true≢false (sym e))
   split_tree k ts e = refl
 
   -- none of what is left is an exported declaration

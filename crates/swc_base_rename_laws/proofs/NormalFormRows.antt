@@ -1,5 +1,5 @@
 -- What is beside one another is alike when what is short is written out.
-use Rattle.std.proofs.Common.{◌≡◌, ℕ, Bool, true, false, List, [], ◌∷◌, map, codes, nat_eq, refl, sym, ap, ◌∙◌, subst, rules, inl}
+use Rattle.std.proofs.Common.{◌≡◌, ℕ, Bool, true, false, List, [], ◌∷◌, map, codes, nat_eq, refl, sym, ap, ◌∙◌, subst, rules, inl, true≢false}
 use Rattle.std.specs.Prelude.{if◌then◌else◌}
 use Rattle.std.specs.Cmp.Lexicographic.{pointwise}
 use Rattle.swc_tree_marks.specs.declared.span.Span.{Span as Range}
@@ -192,14 +192,14 @@ module _ (m : Changes) where
       (LikeFields.next true _ _ _ _ _ c (LikeFields.next false _ _ _ _ _ d LikeFields.end)))))
 
   pub even_row : (b c : Bool) (k : Kind) (ts us : List Node) → even_at c k ≡ true → LikeFields m (flags b k) ts us → L b (written_step (Node-F.Tree k ts)) (written_step (Node-F.Tree k us))
-  even_row b c kind.ParenExpr ts us e l = absurd (cc)
-  even_row b c kind.SeqExpr ts us e l = absurd (cc)
-  even_row b c kind.ObjectLit ts us e l = absurd (cc)
-  even_row b c kind.AssignPatProp ts us e l = absurd (cc)
-  even_row b c kind.ImportNamedSpecifier ts us e l = absurd (cc)
-  even_row b c kind.NamedExport ts us e l = absurd (cc)
-  even_row b c kind.Module ts us e l = absurd (cc)
-  even_row b c kind.ExportDecl ts us e l = absurd (cc)
+  even_row b c kind.ParenExpr ts us e l = absurd (true≢false (sym e))
+  even_row b c kind.SeqExpr ts us e l = absurd (true≢false (sym e))
+  even_row b c kind.ObjectLit ts us e l = absurd (true≢false (sym e))
+  even_row b c kind.AssignPatProp ts us e l = absurd (true≢false (sym e))
+  even_row b c kind.ImportNamedSpecifier ts us e l = absurd (true≢false (sym e))
+  even_row b c kind.NamedExport ts us e l = absurd (true≢false (sym e))
+  even_row b c kind.Module ts us e l = absurd (true≢false (sym e))
+  even_row b c kind.ExportDecl ts us e l = absurd (true≢false (sym e))
   even_row b c kind.IfStmt ts us e l = if_row b ts us l
   even_row b c kind.ArrayPat ts us e l = array_row b ts us l
   even_row b c kind.RestPat ts us e l = rest_row b ts us l

@@ -1,5 +1,5 @@
 -- What is like a tree is the same but for names.
-use Rattle.std.proofs.Common.{◌≡◌, ℕ, zero, suc, Bool, true, false, not, ◌&&◌, ◌||◌, ◌==◌, IsTrue, Some, List, [], ◌∷◌, map, refl, sym, ap, ◌∙◌, inl, inr, nat_eq}
+use Rattle.std.proofs.Common.{◌≡◌, ℕ, zero, suc, Bool, true, false, not, ◌&&◌, ◌||◌, ◌==◌, IsTrue, Some, List, [], ◌∷◌, map, refl, sym, ap, ◌∙◌, inl, inr, nat_eq, true≢false}
 use Rattle.std.specs.Prelude.{if◌then◌else◌, is_some, option_map, slice_get, unwrap_or}
 use Rattle.std.specs.List.{list_all, list_any}
 use Rattle.std.specs.Cmp.{unsigned_Decides}
@@ -38,7 +38,7 @@ not_local role.ExportLocal = false
 not_local r = true
 
 pub no_locals : (k : Kind) → is_left k ≡ true → list_all (λ (f : List ℕ × Slot × Role). not_local f.2) (fields_of k) ≡ true
-no_locals kind.NamedExport h = absurd (cc)
+no_locals kind.NamedExport h = absurd (true≢false (sym h))
 no_locals k h = refl
 
 pub within_is : (p : Place) → spot.is_name (within p) ≡ spot.is_name p

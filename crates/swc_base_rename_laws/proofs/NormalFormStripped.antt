@@ -1,5 +1,5 @@
 -- What is beside one another is so when pairs of parentheses, nested sequences and idle expressions go.
-use Rattle.std.proofs.Common.{◌≡◌, ℕ, Bool, true, false, Option, Some, None, IsTrue, List, [], ◌∷◌, map, refl, sym, ap, ◌∙◌, subst, rules}
+use Rattle.std.proofs.Common.{◌≡◌, ℕ, Bool, true, false, Option, Some, None, IsTrue, List, [], ◌∷◌, map, refl, sym, ap, ◌∙◌, subst, rules, true≢false}
 use Rattle.std.specs.Prelude.{if◌then◌else◌, is_some}
 use Rattle.std.specs.List.{filter, flat_map, list_any}
 use Rattle.swc_tree_marks.specs.declared.span.Span.{Span as Range}
@@ -200,7 +200,7 @@ module _ (m : Changes) (declared : Node → List Id) where
       (Becomes.tree true (part true) kind.UnaryExpr kind.UnaryExpr _ _ (Trees.even (part true) kind.UnaryExpr _ _ refl (Fields.next _ _ _ a0 a1 _ _ a (Fields.next _ _ _ b0 b1 _ _ b (Fields.next _ _ _ c0 c1 _ _ c Fields.end)))))
 
   even_left : (k : Kind) (ts us : List Node) → even_at true k ≡ true → Fields m declared (spots true k) ts us → FieldsLeft (spots true k) ts us → Left (Tree k ts) (Tree k us)
-  even_left kind.SeqExpr ts us e f l = absurd (cc)
+  even_left kind.SeqExpr ts us e f l = absurd (true≢false (sym e))
   even_left kind.UnaryExpr ts us e f l = unary_left ts us f l
   even_left k ts us e f l = bare_whole (part true) k k ts us refl refl (Trees.even (part true) k ts us e f)
 

@@ -1,5 +1,5 @@
 -- What is seen alike of a tree and of what it becomes.
-use Rattle.std.proofs.Common.{◌≡◌, Bool, true, false, not, ◌&&◌, List, [], ◌∷◌, ◌++◌, take, refl, sym, ap, ◌∙◌, subst}
+use Rattle.std.proofs.Common.{◌≡◌, Bool, true, false, not, ◌&&◌, List, [], ◌∷◌, ◌++◌, take, refl, sym, ap, ◌∙◌, subst, true≢false}
 use Rattle.std.specs.Prelude.{if◌then◌else◌}
 use Rattle.std.specs.List.{filter, list_all}
 use Rattle.swc_tree_marks.specs.declared.ident.Ident.{Ident}
@@ -27,12 +27,12 @@ not_sequence kind.SeqExpr = false
 not_sequence k = true
 
 pub parts_single : (k : Kind) (ts : List Node) → not_sequence k ≡ true → parts (Tree k ts) ≡ Tree k ts ∷ []
-parts_single kind.SeqExpr ts h = absurd (cc)
+parts_single kind.SeqExpr ts h = absurd (true≢false (sym h))
 parts_single k ts h = ap (parts_in (Tree k ts)) (outs-Tree k ts)
 
 pub effects_bare : (k : Kind) (ts : List Node) → is_bare k ≡ true → effects (Tree k ts) ≡ Tree k ts ∷ []
-effects_bare kind.SeqExpr ts h = absurd (cc)
-effects_bare kind.UnaryExpr ts h = absurd (cc)
+effects_bare kind.SeqExpr ts h = absurd (true≢false (sym h))
+effects_bare kind.UnaryExpr ts h = absurd (true≢false (sym h))
 effects_bare k ts h = effects_of_tree k ts
 
 module _ (m : Changes) (declared : Node → List Id) where

@@ -1,5 +1,5 @@
 -- Accessors and the parts of chains stay what they are when names are given anew.
-use Rattle.std.proofs.Common.{◌≡◌, Bool, true, false, not, IsTrue, List, [], ◌∷◌, map, length, nat_eq, rules, refl, sym, ap, ◌∙◌, subst}
+use Rattle.std.proofs.Common.{◌≡◌, Bool, true, false, not, IsTrue, List, [], ◌∷◌, map, length, nat_eq, rules, refl, sym, ap, ◌∙◌, subst, true≢false}
 use Rattle.swc_tree_node.specs.declared.kind.Kind.{Kind}
 use Rattle.swc_tree_node.specs.declared.kind.Kind.TheVariants as kind
 use Rattle.swc_tree_node.specs.declared.kind.Class.TheVariants as class
@@ -97,9 +97,9 @@ module _ (m : Changes) (g : GivesNames m) where
   -- ---- parts of chains
 
   base_plain : (k : Kind) → IsTrue (belongs k class.OptChainBase) → writes_out k ≡ false
-  base_plain kind.AssignPatProp h = absurd (cc)
-  base_plain kind.ImportNamedSpecifier h = absurd (cc)
-  base_plain kind.ExportNamedSpecifier h = absurd (cc)
+  base_plain kind.AssignPatProp h = absurd (true≢false (sym h))
+  base_plain kind.ImportNamedSpecifier h = absurd (true≢false (sym h))
+  base_plain kind.ExportNamedSpecifier h = absurd (true≢false (sym h))
   base_plain k h = refl
 
   base_row : (p : Place) (k : Kind) (ts : List Node) (r : Round) → FieldsFit (slots_of k) ts → sound_in (Node-F.Tree k (map of ts)) r ≡ true → sound_in (Node-F.Tree k (map of (fields m p k ts))) r ≡ true

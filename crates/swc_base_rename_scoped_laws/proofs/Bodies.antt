@@ -76,7 +76,7 @@ for_opens : (w : Place) (k : Kind) (ts : List Node) (j : ℕ) → is_at (body_fi
 for_opens w kind.ForStmt ts j h = (refl, refl)
 for_opens w kind.ForInStmt ts j h = (refl, refl)
 for_opens w kind.ForOfStmt ts j h = (refl, refl)
-for_opens w _ ts j h = absurd (cc)
+for_opens w _ ts j h = absurd (true≢false (sym h))
 
 no_for : false ≡ true → ⊥
 no_for h = absurd (cc)
@@ -123,13 +123,13 @@ last_field : (k : Kind) (j l : ℕ) (f : Field) → is_at (body_field k) j ≡ t
 last_field kind.ForStmt j l f h e = let n : j ≡ 4 = sym (same_number 4 j h) in let m = slice_get_within (fields_of kind.ForStmt) l f e in omega (arith, m, n)
 last_field kind.ForInStmt j l f h e = let n : j ≡ 3 = sym (same_number 3 j h) in let m = slice_get_within (fields_of kind.ForInStmt) l f e in omega (arith, m, n)
 last_field kind.ForOfStmt j l f h e = let n : j ≡ 4 = sym (same_number 4 j h) in let m = slice_get_within (fields_of kind.ForOfStmt) l f e in omega (arith, m, n)
-last_field _ j l f h e = absurd (cc)
+last_field _ j l f h e = absurd (true≢false (sym h))
 
 in_turn : (k : Kind) (ts : List Node) (j i : ℕ) → is_at (body_field k) j ≡ true → turn (Node-F.Tree k ts) i ≡ i
 in_turn kind.ForStmt ts j i h = refl
 in_turn kind.ForInStmt ts j i h = refl
 in_turn kind.ForOfStmt ts j i h = refl
-in_turn _ ts j i h = absurd (cc)
+in_turn _ ts j i h = absurd (true≢false (sym h))
 
 some_field : {f g : Field} → Some f ≡ Some g → f ≡ g
 some_field e = cc
@@ -154,7 +154,7 @@ body_slot kind.ForOfStmt j f h e = let n : j ≡ 4 = sym (same_number 4 j h) in 
   where
     at : slice_get (fields_of kind.ForOfStmt) 4 ≡ Some f → f.1 ≡ slot.One (content.Node class.Stmt)
     at e = sym (ap (λ (f : Field). f.1) (some_field e))
-body_slot _ j f h e = absurd (cc)
+body_slot _ j f h e = absurd (true≢false (sym h))
 
 -- the scope of a statement stands round all its parts, but for the name of a namespace
 outside_only : (w : Place) (k : Kind) (named : Bool) (i : ℕ) → IsTrue (belongs k class.Stmt) → is_outside w k named i ≡ true → (k ≡ kind.TsModuleDecl) × (i ≡ 1)

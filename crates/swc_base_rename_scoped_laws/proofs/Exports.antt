@@ -1,5 +1,5 @@
 -- Nothing in an export list stands as the body of a function.
-use Rattle.std.proofs.Common.{◌≡◌, ◌≢◌, ℕ, zero, suc, Bool, true, false, not, ◌&&◌, ◌||◌, ◌==◌, IsTrue, Option, Some, None, List, [], ◌∷◌, ◌++◌, map, refl, sym, ap, ◌∙◌, subst, cond}
+use Rattle.std.proofs.Common.{◌≡◌, ◌≢◌, ℕ, zero, suc, Bool, true, false, not, ◌&&◌, ◌||◌, ◌==◌, IsTrue, Option, Some, None, List, [], ◌∷◌, ◌++◌, map, refl, sym, ap, ◌∙◌, subst, cond, true≢false}
 use Rattle.std.specs.List.{slice_get}
 use Rattle.std.specs.Option.{option_map, unwrap_or}
 use Rattle.swc_tree_marks.specs.declared.ident.Ident.{Ident}
@@ -96,12 +96,12 @@ then_so false b h e = absurd (cc)
 specifier_kind : (k : Kind) → IsTrue (belongs k class.ExportSpecifier) → is_quiet_kind k ≡ true
 specifier_kind kind.ExportNamespaceSpecifier h = refl
 specifier_kind kind.ExportNamedSpecifier h = refl
-specifier_kind _ h = absurd (cc)
+specifier_kind _ h = absurd (true≢false (sym h))
 
 name_kind : (k : Kind) → IsTrue (belongs k class.ModuleExportName) → is_quiet_kind k ≡ true
 name_kind kind.Ident h = refl
 name_kind kind.Str h = refl
-name_kind _ h = absurd (cc)
+name_kind _ h = absurd (true≢false (sym h))
 
 class_kind : (k : Kind) (c : Class) → is_listed c ≡ true → IsTrue (belongs k c) → is_quiet_kind k ≡ true
 class_kind k class.ExportSpecifier q h = specifier_kind k h

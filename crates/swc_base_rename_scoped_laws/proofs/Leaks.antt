@@ -188,7 +188,7 @@ plain_default kind.IfStmt i h = at (i == 2 || i == 3)
     at : (b : Bool) → cond b standing.Branch standing.Plain ≢ standing.DefaultExport
     at true e = absurd (cc)
     at false e = absurd (cc)
-plain_default kind.ExportDefaultDecl i h = absurd (cc)
+plain_default kind.ExportDefaultDecl i h = absurd (true≢false (sym h))
 plain_default _ i h = plain_apart
 
 word_default : (w : Word) → by_word w ≢ standing.DefaultExport
@@ -235,11 +235,11 @@ holds_names _ = false
 
 block_alone : (k : Kind) → IsTrue (belongs k class.BlockStmt) → holds_names k ≡ true
 block_alone kind.BlockStmt h = refl
-block_alone _ h = absurd (cc)
+block_alone _ h = absurd (true≢false (sym h))
 
 catch_alone : (k : Kind) → IsTrue (belongs k class.CatchClause) → holds_names k ≡ true
 catch_alone kind.CatchClause h = refl
-catch_alone _ h = absurd (cc)
+catch_alone _ h = absurd (true≢false (sym h))
 
 held_kind : (k : Kind) (ts : List Node) (s : Slot) → is_block_slot s ≡ true → IsTrue (tree_fits k (map fits ts) (single s)) → holds_names k ≡ true
 held_kind k ts (slot.One (content.Node class.BlockStmt)) q h = block_alone k (both (belongs k class.BlockStmt) (each_fits (slots_of k) (map fits ts)) (both (not (is_identifier k)) (belongs k class.BlockStmt && each_fits (slots_of k) (map fits ts)) h).1).0
@@ -324,7 +324,7 @@ plain_place kind.IfStmt i h = at (i == 2 || i == 3)
     at : (b : Bool) → is_statement_place (cond b standing.Branch standing.Plain) ≡ true
     at true = refl
     at false = refl
-plain_place kind.ExportDefaultDecl i h = absurd (cc)
+plain_place kind.ExportDefaultDecl i h = absurd (true≢false (sym h))
 plain_place _ i h = refl
 
 -- what is asked of a statement in a statement

@@ -225,8 +225,8 @@ so w k ts i role.Class r d b p h = refl
 so w k ts i _ r d b p h = absurd (cc)
 
 no_export : (k : Kind) (r : Standing) (i : ℕ) → analysed k r ≡ true → is_default_export (plain_standing k i) ≡ false
-no_export kind.IfStmt r i h = absurd (cc)
-no_export kind.ExportDefaultDecl r i h = absurd (cc)
+no_export kind.IfStmt r i h = absurd (true≢false (sym h))
+no_export kind.ExportDefaultDecl r i h = absurd (true≢false (sym h))
 no_export _ r i h = refl
 
 chosen : (b : Bool) (s : Standing) → is_default_export s ≡ false → is_default_export (cond b standing.Reference s) ≡ false
@@ -265,6 +265,9 @@ may_more g false true r h e = at g.any g.own _ e
     at false false c h = h
 may_more g false false r h e = e
 
+no_scope : {a : ScopeKind} → None ≡ Some a → ⊥
+no_scope e = absurd (cc)
+
 -- what the node opens
 pub opens_analysed : (w : Place) (k : Kind) (b : Bool) (a : ScopeKind) (r : Standing) → own_kind w k b ≡ Some a → takes_all a r ≡ true → analysed k r ≡ true
 opens_analysed w kind.Module b a r e h = refl
@@ -287,9 +290,9 @@ opens_analysed w kind.BlockStmt b a r e h = by w.standing e
     by : (s : Standing) → option_and_then kind_of (block_scope s) ≡ Some a → takes_all Block r ≡ true
     by standing.Body e = absurd (cc)
     by _ e = let z : Block ≡ a = cc in ap (λ a. takes_all a r) z ∙ h
-opens_analysed w kind.SwitchStmt b a r e h = absurd (cc)
-opens_analysed w kind.FnDecl b a r e h = absurd (cc)
-opens_analysed w _ b a r e h = absurd (cc)
+opens_analysed w kind.SwitchStmt b a r e h = absurd (no_scope e)
+opens_analysed w kind.FnDecl b a r e h = absurd (no_scope e)
+opens_analysed w _ b a r e h = absurd (no_scope e)
 
 scope_named : (s : Standing) (b : Bool) (n : Scope) (r : Standing) (a : ScopeKind) → option_and_then kind_of (name_scope s b n) ≡ Some a → takes r n ≡ true → is_taken r (name_scope s b n) ≡ true
 scope_named standing.DefaultExport b n r a e h = absurd (cc)
@@ -322,10 +325,10 @@ opens_taken w kind.ForInStmt ts i r a d there e h = h
 opens_taken w kind.ForOfStmt ts i r a d there e h = h
 opens_taken w kind.BlockStmt ts i r a d there e h = block_there w.standing r a e h
 opens_taken w kind.FnExpr ts zero r a d there e h = scope_named w.standing (has_own_name ts) scope.FunctionName r a e h
-opens_taken w kind.FnExpr ts (suc i) r a d there e h = absurd (cc)
+opens_taken w kind.FnExpr ts (suc i) r a d there e h = absurd (true≢false (sym h))
 opens_taken w kind.ClassExpr ts zero r a d there e h = name_there w.standing (has_own_name ts) scope.ClassName r (d refl) (there refl) h
-opens_taken w kind.ClassExpr ts (suc i) r a d there e h = absurd (cc)
-opens_taken w _ ts i r a d there e h = absurd (cc)
+opens_taken w kind.ClassExpr ts (suc i) r a d there e h = absurd (true≢false (sym h))
+opens_taken w _ ts i r a d there e h = absurd (true≢false (sym h))
 
 parameters_inside : (o : Bool) → is_inside (cond o view.Parameters view.Whole) ≡ true
 parameters_inside true = refl
@@ -367,8 +370,8 @@ none_left own r h = absurd (cc)
 
 ident_alone : (k : Kind) → IsTrue (belongs k class.Ident) → is_identifier k ≡ true
 ident_alone kind.Ident h = refl
-ident_alone kind.Module h = absurd (cc)
-ident_alone _ h = absurd (cc)
+ident_alone kind.Module h = absurd (true≢false (sym h))
+ident_alone _ h = absurd (true≢false (sym h))
 
 pub no_tree : (l : Kind) (us : List Node) → IsTrue (tree_fits l (map fits us) (Some (content.Node class.Ident))) → ⊥
 no_tree l us h =
@@ -397,7 +400,7 @@ not_exported w kind.FnExpr b a e n h = by w.standing e
     by : (s : Standing) → option_and_then kind_of (name_scope s b scope.FunctionName) ≡ Some a → is_default_export s ≡ false
     by standing.DefaultExport e = absurd (cc)
     by _ e = refl
-not_exported w _ b a e n h = absurd (cc)
+not_exported w _ b a e n h = absurd (true≢false (sym h))
 
 pub owned : (w : Place) (t : Node) (k : Kind) (ts : List Node) (j : ℕ) (r : Standing) → out-Node t ≡ Node-F.Tree k ts → is_taken r (opened_as w k (has_own_name ts)) ≡ true → is_inside (view_from k j) ≡ true
     → own (opened w t) (view_in (out-Node t) j) r ≡ Some []

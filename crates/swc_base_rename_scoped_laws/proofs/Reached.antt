@@ -1,6 +1,6 @@
 -- The scope of the analysis that declares a plain function of a block of sloppy code is the nearest function, static block or
 -- program of the language, or stands round it.
-use Rattle.std.proofs.Common.{◌≡◌, ℕ, zero, suc, Bool, true, false, not, ◌&&◌, IsTrue, inl, Option, Some, None, List, [], ◌∷◌, map, refl, sym, ap, ◌∙◌, subst, cond}
+use Rattle.std.proofs.Common.{◌≡◌, ℕ, zero, suc, Bool, true, false, not, ◌&&◌, IsTrue, inl, Option, Some, None, List, [], ◌∷◌, map, refl, sym, ap, ◌∙◌, subst, cond, true≢false}
 use Rattle.std.specs.List.{slice_get}
 use Rattle.swc_tree_node.specs.declared.kind.Kind.{Kind}
 use Rattle.swc_tree_node.specs.declared.kind.Kind.TheVariants as kind
@@ -211,7 +211,7 @@ stays_out w _ b i h = refl
 
 declaration_leaves : (k : Kind) → is_declaration k ≡ true → may (leaves_kind k) false standing.Variable ≡ true
 declaration_leaves kind.FnDecl h = refl
-declaration_leaves _ h = absurd (cc)
+declaration_leaves _ h = absurd (true≢false (sym h))
 
 may_own : (g : Slot) (y : Bool) → leaves_variable g ≡ true → may (leaves_slot g) y standing.Variable ≡ true
 may_own g y m = may_more (leaves_slot g) false y standing.Variable (λ e. impossible e) m
@@ -279,11 +279,11 @@ variable_there kind.GetterProp i w b h = refl
 variable_there kind.SetterProp i w b h = refl
 variable_there kind.StaticBlock i w b h = refl
 variable_there kind.TsModuleDecl i w b h = refl
-variable_there kind.FnExpr zero w b h = absurd (cc)
-variable_there kind.FnExpr (suc i) w b h = absurd (cc)
-variable_there kind.ClassExpr zero w b h = absurd (cc)
-variable_there kind.ClassExpr (suc i) w b h = absurd (cc)
-variable_there _ i w b h = absurd (cc)
+variable_there kind.FnExpr zero w b h = absurd (true≢false (sym h))
+variable_there kind.FnExpr (suc i) w b h = absurd (true≢false (sym h))
+variable_there kind.ClassExpr zero w b h = absurd (true≢false (sym h))
+variable_there kind.ClassExpr (suc i) w b h = absurd (true≢false (sym h))
+variable_there _ i w b h = absurd (true≢false (sym h))
 
 itself : (f : Bool) (m : Option ScopeKind) (a : ScopeKind) → body_kind f m ≡ Some a → takes a standing.Variable ≡ true → m ≡ Some a
 itself false m a e h = e
@@ -303,7 +303,7 @@ variable_held f w t k ts j fd o number m h =
 none_here : (f : Bool) (w : Place) (k : Kind) (ts : List Node) (j : ℕ) → is_declaration k ≡ true → first_taking standing.Variable (opened_round f w (Node-F.Tree k ts) j) ≡ None
 none_here true w kind.FnDecl ts j h = refl
 none_here false w kind.FnDecl ts j h = refl
-none_here f w _ ts j h = absurd (cc)
+none_here f w _ ts j h = absurd (true≢false (sym h))
 
 no_root : {A : Type 0} → None ≡ root → A
 no_root e = absurd (cc)

@@ -1,5 +1,5 @@
 -- What can be written down has parts that can, but for names and other leaves.
-use Rattle.std.proofs.Common.{◌≡◌, Bool, true, false, ◌&&◌, ◌||◌, ◌⊎◌, inl, inr, List, [], ◌∷◌, map, length, refl, arith}
+use Rattle.std.proofs.Common.{◌≡◌, Bool, true, false, ◌&&◌, ◌||◌, ◌⊎◌, inl, inr, List, [], ◌∷◌, map, length, refl, arith, sym, true≢false}
 use Rattle.std.specs.Prelude.{if◌then◌else◌}
 use Rattle.swc_tree_node.specs.declared.kind.Kind.{Kind}
 use Rattle.swc_tree_node.specs.declared.kind.Kind.TheVariants as kind
@@ -335,8 +335,8 @@ row kind.ExportNamespaceSpecifier ts r n fit h = exact2 (λ ts. sound_in (Node-F
 row kind.ExportDecl ts r n fit h = exact2 (λ ts. sound_in (Node-F.Tree kind.ExportDecl (map of ts)) r ≡ true → EachStatus (fields_of kind.ExportDecl) ts) ts n (λ span decl h. export_decl_row span decl r h) h
 row kind.Module ts r n fit h = exact3 (λ ts. sound_in (Node-F.Tree kind.Module (map of ts)) r ≡ true → EachStatus (fields_of kind.Module) ts) ts n (λ span body shebang h. module_row span body shebang r h) h
 row kind.Script ts r n fit h = exact3 (λ ts. sound_in (Node-F.Tree kind.Script (map of ts)) r ≡ true → EachStatus (fields_of kind.Script) ts) ts n (λ span body shebang h. script_row span body shebang r h) h
-row kind.TsInterfaceDecl ts r n fit h = absurd (cc)
-row kind.TsTypeAliasDecl ts r n fit h = absurd (cc)
-row kind.TsEnumDecl ts r n fit h = absurd (cc)
-row kind.TsModuleDecl ts r n fit h = absurd (cc)
+row kind.TsInterfaceDecl ts r n fit h = absurd (true≢false (sym h))
+row kind.TsTypeAliasDecl ts r n fit h = absurd (true≢false (sym h))
+row kind.TsEnumDecl ts r n fit h = absurd (true≢false (sym h))
+row kind.TsModuleDecl ts r n fit h = absurd (true≢false (sym h))
 row k ts r n fit h = each_sound (fields_of k) ts (binding r) fit h

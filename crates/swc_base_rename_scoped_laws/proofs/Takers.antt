@@ -1,6 +1,6 @@
 -- The scope of the analysis that declares a name is that of the language, or stands round it; but for a lexical name that
 -- stands directly in the body of a `for` statement.
-use Rattle.std.proofs.Common.{◌≡◌, ◌≢◌, ℕ, Bool, true, false, ◌⊎◌, inl, inr, Option, Some, None, List, [], ◌∷◌, ◌++◌, map, refl, sym, ap, ◌∙◌, subst, cond}
+use Rattle.std.proofs.Common.{◌≡◌, ◌≢◌, ℕ, Bool, true, false, ◌⊎◌, inl, inr, Option, Some, None, List, [], ◌∷◌, ◌++◌, map, refl, sym, ap, ◌∙◌, subst, cond, true≢false}
 use Rattle.std.specs.List.{slice_get}
 use Rattle.std.specs.Prelude.{if◌then◌else◌}
 use Rattle.swc_tree_node.specs.declared.kind.Kind.{Kind}
@@ -92,13 +92,13 @@ body_number kind.ForOfStmt j f w ts h e = let n : j ≡ 4 = sym (same_number 4 j
   where
     at : slice_get (fields_of kind.ForOfStmt) 4 ≡ Some f → (f.1 ≡ slot.One (content.Node class.Stmt)) × (standing_below w kind.ForOfStmt ts j f.2 ≡ standing.Plain)
     at e = (sym (ap (λ (f : Field). f.1) (some_field e)), sym (ap (λ (f : Field). standing_below w kind.ForOfStmt ts j f.2) (some_field e)))
-body_number _ j f w ts h e = absurd (cc)
+body_number _ j f w ts h e = absurd (true≢false (sym h))
 
 body_taken : (w : Place) (k : Kind) (ts : List Node) (j : ℕ) → is_at (body_field k) j ≡ true → own (opened_in w (Node-F.Tree k ts)) (view_in (Node-F.Tree k ts) j) standing.Lexical ≡ Some []
 body_taken w kind.ForStmt ts j h = refl
 body_taken w kind.ForInStmt ts j h = refl
 body_taken w kind.ForOfStmt ts j h = refl
-body_taken w _ ts j h = absurd (cc)
+body_taken w _ ts j h = absurd (true≢false (sym h))
 
 body_taken_in : (w : Place) (t : Node) (j : ℕ) (y : Node-F Node) → out-Node t ≡ y → is_for_body y j ≡ true → own (opened w t) (view_in (out-Node t) j) standing.Lexical ≡ Some []
 body_taken_in w t j (Node-F.Tree k ts) o h = ap (λ y. own (opened_in w y) (view_in y j) standing.Lexical) o ∙ body_taken w k ts j h

@@ -47,7 +47,7 @@ using_head a b c r h = let p = half h in let q = half p.1 in (still refl, (still
 head_row : (k : Kind) (ts : List Node) (r : Round) → length ts ≡ length (slots_of k) → in_head_in (Node-F.Tree k (map of ts)) r ≡ true → EachStatus (fields_of k) ts
 head_row kind.VarDecl ts r n h = exact3 (λ ts. in_head_in (Node-F.Tree kind.VarDecl (map of ts)) r ≡ true → EachStatus (fields_of kind.VarDecl) ts) ts n (λ a b c h. var_head a b c r h) h
 head_row kind.UsingDecl ts r n h = exact3 (λ ts. in_head_in (Node-F.Tree kind.UsingDecl (map of ts)) r ≡ true → EachStatus (fields_of kind.UsingDecl) ts) ts n (λ a b c h. using_head a b c r h) h
-head_row _ ts r n h = absurd (cc)
+head_row _ ts r n h = absurd (true≢false (sym h))
 
 -- kinds that hold no statement
 abbrev all_quiet : List Field → Bool
@@ -64,39 +64,39 @@ kind_quiet _ = refl
 
 ident_kind : (k : Kind) → IsTrue (belongs k class.Ident) → is_quiet_kind k ≡ true
 ident_kind kind.Ident h = refl
-ident_kind _ h = absurd (cc)
+ident_kind _ h = absurd (true≢false (sym h))
 
 ident_name_kind : (k : Kind) → IsTrue (belongs k class.IdentName) → is_quiet_kind k ≡ true
 ident_name_kind kind.IdentName h = refl
-ident_name_kind _ h = absurd (cc)
+ident_name_kind _ h = absurd (true≢false (sym h))
 
 private_name_kind : (k : Kind) → IsTrue (belongs k class.PrivateName) → is_quiet_kind k ≡ true
 private_name_kind kind.PrivateName h = refl
-private_name_kind _ h = absurd (cc)
+private_name_kind _ h = absurd (true≢false (sym h))
 
 str_kind : (k : Kind) → IsTrue (belongs k class.Str) → is_quiet_kind k ≡ true
 str_kind kind.Str h = refl
-str_kind _ h = absurd (cc)
+str_kind _ h = absurd (true≢false (sym h))
 
 tpl_element_kind : (k : Kind) → IsTrue (belongs k class.TplElement) → is_quiet_kind k ≡ true
 tpl_element_kind kind.TplElement h = refl
-tpl_element_kind _ h = absurd (cc)
+tpl_element_kind _ h = absurd (true≢false (sym h))
 
 import_specifier_kind : (k : Kind) → IsTrue (belongs k class.ImportSpecifier) → is_quiet_kind k ≡ true
 import_specifier_kind kind.ImportNamedSpecifier h = refl
 import_specifier_kind kind.ImportDefaultSpecifier h = refl
 import_specifier_kind kind.ImportStarAsSpecifier h = refl
-import_specifier_kind _ h = absurd (cc)
+import_specifier_kind _ h = absurd (true≢false (sym h))
 
 export_specifier_kind : (k : Kind) → IsTrue (belongs k class.ExportSpecifier) → is_quiet_kind k ≡ true
 export_specifier_kind kind.ExportNamespaceSpecifier h = refl
 export_specifier_kind kind.ExportNamedSpecifier h = refl
-export_specifier_kind _ h = absurd (cc)
+export_specifier_kind _ h = absurd (true≢false (sym h))
 
 module_export_name_kind : (k : Kind) → IsTrue (belongs k class.ModuleExportName) → is_quiet_kind k ≡ true
 module_export_name_kind kind.Ident h = refl
 module_export_name_kind kind.Str h = refl
-module_export_name_kind _ h = absurd (cc)
+module_export_name_kind _ h = absurd (true≢false (sym h))
 
 class_kind : (k : Kind) (c : Class) → is_quiet_class c ≡ true → IsTrue (belongs k c) → is_quiet_kind k ≡ true
 class_kind k class.Ident q h = ident_kind k h

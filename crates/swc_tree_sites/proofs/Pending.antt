@@ -1,5 +1,5 @@
 -- What is pending at a node is what its place lets it leave; so an expression leaves nothing.
-use Rattle.std.proofs.Common.{◌≡◌, ◌≢◌, ℕ, zero, suc, Bool, true, false, not, ◌&&◌, ◌||◌, ◌==◌, ◌⊎◌, inl, inr, ⊎_elim, IsTrue, Option, Some, None, List, [], ◌∷◌, map, refl, sym, ap, ◌∙◌, subst, cond}
+use Rattle.std.proofs.Common.{◌≡◌, ◌≢◌, ℕ, zero, suc, Bool, true, false, not, ◌&&◌, ◌||◌, ◌==◌, ◌⊎◌, inl, inr, ⊎_elim, IsTrue, Option, Some, None, List, [], ◌∷◌, map, refl, sym, ap, ◌∙◌, subst, cond, true≢false}
 use Rattle.std.specs.List.{slice_get}
 use Rattle.std.specs.Prelude.{unwrap_or, option_map}
 use Rattle.swc_tree_marks.specs.declared.ident.Ident.{Ident}
@@ -170,12 +170,12 @@ exported_default false h = absurd (cc)
 
 -- by the standing alone, then by the kind: both at once have some 2,500 cases
 name_default_of_default : (k : Kind) → is_default (own_name standing.DefaultExport k) ≡ true → ⊥
-name_default_of_default kind.FnExpr h = absurd (cc)
-name_default_of_default _ h = absurd (cc)
+name_default_of_default kind.FnExpr h = absurd (true≢false (sym h))
+name_default_of_default _ h = absurd (true≢false (sym h))
 
 name_default_of_expression : (k : Kind) → is_default (own_name standing.Plain k) ≡ true → ⊥
-name_default_of_expression kind.FnExpr h = absurd (cc)
-name_default_of_expression _ h = absurd (cc)
+name_default_of_expression kind.FnExpr h = absurd (true≢false (sym h))
+name_default_of_expression _ h = absurd (true≢false (sym h))
 
 name_default : (k : Kind) (s : Standing) → is_default (own_name s k) ≡ true → ⊥
 name_default k standing.DefaultExport h = name_default_of_default k h
@@ -188,7 +188,7 @@ plain_default kind.IfStmt i h = at (i == 2 || i == 3) h
     at true h = absurd (cc)
     at false h = absurd (cc)
 plain_default kind.ExportDefaultDecl i h = refl
-plain_default _ i h = absurd (cc)
+plain_default _ i h = absurd (true≢false (sym h))
 
 default_so : (w : Place) (k : Kind) (ts : List Node) (i : ℕ) (x : Role) → is_default w.standing ≡ false → is_default (standing_below w k ts i x) ≡ true → (leaves_kind k).any ≡ true
 default_so w k ts i role.Plain d h = plain_default k i h
@@ -338,7 +338,7 @@ identifier_claim t k i o w s b fit g =
     identifier_leaves : (k : Kind) (r : Standing) → IsTrue (is_identifier k) → may (leaves_kind k) (same r r) r ≡ true
     identifier_leaves kind.Ident r h = ap (λ x. (x || false)) (same_refl r)
     identifier_leaves kind.BindingIdent r h = ap (λ x. (x || false)) (same_refl r)
-    identifier_leaves _ r h = absurd (cc)
+    identifier_leaves _ r h = absurd (true≢false (sym h))
 
 -- what a part of a pattern may leave, the pattern may
 part_may : (g : Leaves) (s : Standing) (o : Option Node) (r : Standing) → is_binding r ≡ true → may_at g (part_standing s o) r ≡ true → may_at g s r ≡ true

@@ -1,5 +1,5 @@
 -- An expression has the same names wherever it stands, but for a default export.
-use Rattle.std.proofs.Common.{◌≡◌, ℕ, zero, suc, Bool, true, false, not, ◌&&◌, ◌||◌, IsTrue, Option, Some, List, [], ◌∷◌, refl, sym, ap, ◌∙◌, cond}
+use Rattle.std.proofs.Common.{◌≡◌, ℕ, zero, suc, Bool, true, false, not, ◌&&◌, ◌||◌, IsTrue, Option, Some, List, [], ◌∷◌, refl, sym, ap, ◌∙◌, cond, true≢false}
 use Rattle.std.specs.List.{list_all, slice_get}
 use Rattle.std.specs.Prelude.{unwrap_or, option_map}
 use Rattle.swc_tree_marks.specs.declared.ident.Ident.{Ident}
@@ -88,8 +88,8 @@ name_alike _ _ k d e = refl
 opened_alike : (k : Kind) (p q : Standing) (n b : Bool) → is_default p ≡ false → is_default q ≡ false → IsTrue (belongs k class.Expr) → opened_as (P p n) k b ≡ opened_as (P q n) k b
 opened_alike kind.FnExpr p q n b d e h = scope_alike p q b scope.FunctionName d e
 opened_alike kind.ClassExpr p q n b d e h = scope_alike p q b scope.ClassName d e
-opened_alike kind.BlockStmt p q n b d e h = absurd (cc)
-opened_alike kind.FnDecl p q n b d e h = absurd (cc)
+opened_alike kind.BlockStmt p q n b d e h = absurd (true≢false (sym h))
+opened_alike kind.FnDecl p q n b d e h = absurd (true≢false (sym h))
 opened_alike _ p q n b d e h = refl
 
 standing_alike : (k : Kind) (ts : List Node) (i : ℕ) (x : Role) (p q : Standing) (n : Bool) → is_default p ≡ false → is_default q ≡ false → is_free_role x ≡ true → standing_below (P p n) k ts i x ≡ standing_below (P q n) k ts i x

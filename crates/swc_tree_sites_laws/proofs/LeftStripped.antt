@@ -1,5 +1,5 @@
 -- A tree that is stripped has fewer names, with the same round them.
-use Rattle.std.proofs.Common.{◌≡◌, ℕ, zero, suc, Bool, true, false, not, IsTrue, Option, Some, None, List, [], ◌∷◌, ◌++◌, map, refl, sym, ap, ◌∙◌, subst, cond, rules}
+use Rattle.std.proofs.Common.{◌≡◌, ℕ, zero, suc, Bool, true, false, not, IsTrue, Option, Some, None, List, [], ◌∷◌, ◌++◌, map, refl, sym, ap, ◌∙◌, subst, cond, rules, true≢false}
 use Rattle.std.specs.List.{filter, flat_map, list_all, slice_get}
 use Rattle.std.specs.Prelude.{unwrap_or, option_map}
 use Rattle.std.proofs.lemmas.Option.{slice_get-map}
@@ -341,7 +341,7 @@ on_modules P each t = by_children (λ t. Fits t (one class.Module) → P t) (
     at kind.Module (x ∷ y ∷ []) c f = absurd f.1.1
     at kind.Module (x ∷ y ∷ z ∷ v ∷ ts) c f = absurd f.1.1.1
     at kind.Module (x ∷ y ∷ z ∷ []) c f = each x y z f
-    at _ ts c f = absurd (cc)
+    at _ ts c f = absurd (true≢false (sym c))
 
 -- its fields, stripped
 three_fewer : (x y z : Node) → FieldsFit (slots_of kind.Module) (x ∷ y ∷ z ∷ []) → IsTrue (all_bare (Tree kind.Module (x ∷ y ∷ z ∷ [])))

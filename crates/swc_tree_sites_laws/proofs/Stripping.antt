@@ -1,5 +1,5 @@
 -- What is left of a tree that is stripped: its names are among those of the tree, with the same round them.
-use Rattle.std.proofs.Common.{◌≡◌, Bool, true, false, not, IsTrue, List, [], ◌∷◌, map, refl, sym, ap, ◌∙◌, rules}
+use Rattle.std.proofs.Common.{◌≡◌, Bool, true, false, not, IsTrue, List, [], ◌∷◌, map, refl, sym, ap, ◌∙◌, rules, true≢false}
 use Rattle.swc_tree_marks.specs.declared.ident.Ident.{Ident}
 use Rattle.swc_tree_node.specs.declared.kind.Kind.{Kind}
 use Rattle.swc_tree_node.specs.declared.kind.Kind.TheVariants as kind
@@ -70,7 +70,7 @@ module _ {A : Type 0} (g : Node-F Node → A) (d : A) (trees : (k : Kind) (ts : 
       as_expression : (k : Kind) (ts : List Node) → FieldsFit (slots_of k) ts → IsTrue (not (is_identifier k)) → IsTrue (belongs k class.Expr) → Fits (Tree k ts) expr
       as_expression k ts f i b = tree_closes k ts class.Expr i b f
   own_expression kind.SeqExpr ts s e f = let w = stands kind.SeqExpr ts s f in tree_closes kind.SeqExpr ts class.Expr refl refl w.fields
-  own_expression _ ts s e f = absurd (cc)
+  own_expression _ ts s e f = absurd (true≢false (sym e))
 
   of_tree : (k : Kind) (ts : List Node) (s : Slot) (b : Bool) → is_pair_kind k ≡ b → Fits (Tree k ts) s → IsTrue (all_bare (Tree k ts)) → g (out-Node (stripped (Tree k ts))) ≡ g (out-Node (Tree k ts))
   of_tree k ts s false e f h = let (us, is) = tree_stays k ts e in ap (λ t. g (out-Node t)) is ∙ ap g (outs-Tree k us) ∙ trees k us ∙ sym (ap g (outs-Tree k ts) ∙ trees k ts)

@@ -1,5 +1,5 @@
 -- A tree that can be written down and is settled is settled with its blocks.
-use Rattle.std.proofs.Common.{◌≡◌, ℕ, Bool, true, false, not, None, List, [], ◌∷◌, map, refl, sym, ap, ◌∙◌, subst, cond, rules}
+use Rattle.std.proofs.Common.{◌≡◌, ℕ, Bool, true, false, not, None, List, [], ◌∷◌, map, refl, sym, ap, ◌∙◌, subst, cond, rules, true≢false}
 use Rattle.std.specs.List.{list_all}
 use Rattle.swc_tree_marks.specs.declared.ident.Ident.{Ident}
 use Rattle.swc_tree_node.specs.declared.kind.Kind.{Kind}
@@ -41,12 +41,12 @@ use Rattle.swc_tree_sites_scripts.proofs.KeepsNested.{Bodied, bodies_in, deep, d
 -- ---- bodies of a tree that can be written down
 
 quiet_bodies : (k : Kind) (ts : List Node) → list_all is_quiet (slots_of k) ≡ true → bodies_in (Node-F.Tree k ts) ≡ true
-quiet_bodies kind.WithStmt ts q = absurd (cc)
-quiet_bodies kind.WhileStmt ts q = absurd (cc)
-quiet_bodies kind.DoWhileStmt ts q = absurd (cc)
-quiet_bodies kind.ForStmt ts q = absurd (cc)
-quiet_bodies kind.ForInStmt ts q = absurd (cc)
-quiet_bodies kind.ForOfStmt ts q = absurd (cc)
+quiet_bodies kind.WithStmt ts q = absurd (true≢false (sym q))
+quiet_bodies kind.WhileStmt ts q = absurd (true≢false (sym q))
+quiet_bodies kind.DoWhileStmt ts q = absurd (true≢false (sym q))
+quiet_bodies kind.ForStmt ts q = absurd (true≢false (sym q))
+quiet_bodies kind.ForInStmt ts q = absurd (true≢false (sym q))
+quiet_bodies kind.ForOfStmt ts q = absurd (true≢false (sym q))
 quiet_bodies kind.Module ts q = refl
 quiet_bodies _ ts q = refl
 
@@ -66,7 +66,7 @@ sound_bodies k ts d r h = refl
 head_bodies : (k : Kind) (ts : List Node) (r : Round) → in_head_in (Node-F.Tree k (map asked ts)) r ≡ true → bodies_in (Node-F.Tree k ts) ≡ true
 head_bodies kind.VarDecl ts r h = refl
 head_bodies kind.UsingDecl ts r h = refl
-head_bodies _ ts r h = absurd (cc)
+head_bodies _ ts r h = absurd (true≢false (sym h))
 
 bodied : Everywhere (every bodies_in) (λ k ts. bodies_in (Node-F.Tree k ts))
 bodied = record {
@@ -123,7 +123,7 @@ ending t f = only_node class.Stmt (λ t. takes_else (with_blocks t) ≡ true →
     (λ k ts b g x h. (let (us, is) = blocks_kind k ts g in (k, ts, refl, ending_kind k (map takes_else us) (sym (ap takes_else is ∙ takes_else_of_tree k us) ∙ h)))) t f
 
 ending_function : (k : Kind) (ts : List Node) → is_ending k ≡ true → function_in (Node-F.Tree k ts) ≡ false
-ending_function kind.FnDecl ts h = absurd (cc)
+ending_function kind.FnDecl ts h = absurd (true≢false (sym h))
 ending_function kind.Module ts h = refl
 ending_function _ ts h = refl
 
@@ -172,8 +172,8 @@ stays_text : (x : List ℕ) → with_blocks (Text x) ≡ Text x
 stays_text x = search (rules, the_lemmas)
 
 code_other : (k : Kind) (ts : List Node) → is_code k ≡ true → with_blocks (Tree k ts) ≡ Tree k (map with_blocks ts)
-code_other kind.IfStmt ts e = absurd (cc)
-code_other kind.Module ts e = absurd (cc)
+code_other kind.IfStmt ts e = absurd (true≢false (sym e))
+code_other kind.Module ts e = absurd (true≢false (sym e))
 code_other k ts e = blocks_other k ts refl
 
 other_claim : (k : Kind) (ts : List Node) → is_if k ≡ false → Each Claim ts → Claim (Tree k ts)

@@ -127,7 +127,7 @@ module _ (f : Node → Node) (lists : (ts : List Node) → f (Many ts) ≡ Many 
   block_row t kind.BlockStmt ts e h =
       ap (λ t. has_use_strict (block_in (out-Node (f t)))) e ∙ ap (λ t. has_use_strict (block_in (out-Node t))) (codes kind.BlockStmt ts refl) ∙ ap (λ y. has_use_strict (block_in y)) (outs-Tree kind.BlockStmt (map f ts))
       ∙ ap (λ o. has_use_strict (items_of o)) (slice_get-map f ts block_stmt.STMTS) ∙ items_of_up (slice_get ts block_stmt.STMTS) h
-  block_row t kind.Module ts e h = absurd (cc)
+  block_row t kind.Module ts e h = absurd (true≢false (sym h))
   block_row t _ ts e h = absurd (true≢false (sym h))
 
   block_up : (t : Node) (y : Node-F Node) → out-Node t ≡ y → has_use_strict (block_in y) ≡ true → has_use_strict (block_in (out-Node (f t))) ≡ true

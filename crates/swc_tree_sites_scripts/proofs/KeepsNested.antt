@@ -1,5 +1,5 @@
 -- A statement that is settled, and is no function declaration, is settled in a block too.
-use Rattle.std.proofs.Common.{◌≡◌, ℕ, zero, suc, ◌==◌, Bool, true, false, not, ◌&&◌, ◌||◌, IsTrue, Option, Some, None, List, [], ◌∷◌, map, refl, sym, ap, ◌∙◌, subst, cond, rules}
+use Rattle.std.proofs.Common.{◌≡◌, ℕ, zero, suc, ◌==◌, Bool, true, false, not, ◌&&◌, ◌||◌, IsTrue, Option, Some, None, List, [], ◌∷◌, map, refl, sym, ap, ◌∙◌, subst, cond, rules, true≢false}
 use Rattle.std.specs.List.{list_all, slice_get}
 use Rattle.std.specs.Prelude.{unwrap_or, option_map}
 use Rattle.swc_tree_node.specs.declared.kind.Kind.{Kind}
@@ -450,8 +450,8 @@ ending_kind kind.WithStmt bs h = refl
 ending_kind kind.ForStmt bs h = refl
 ending_kind kind.ForInStmt bs h = refl
 ending_kind kind.ForOfStmt bs h = refl
-ending_kind kind.Module bs h = absurd (cc)
-ending_kind _ bs h = absurd (cc)
+ending_kind kind.Module bs h = absurd (true≢false (sym h))
+ending_kind _ bs h = absurd (true≢false (sym h))
 
 pub ending_free : (k : Kind) (ts : List Node) → is_ending k ≡ true → (w v : Place) → Calmer v w → Z w (Tree k ts) ≡ true → Z v (Tree k ts) ≡ true
 ending_free k ts e = standing_free k ts (hidden (is_ending k) (is_shown k) (ending_hidden k) e)

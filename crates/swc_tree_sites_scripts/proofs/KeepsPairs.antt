@@ -1,5 +1,5 @@
 -- A tree that is settled is settled with its due pairs.
-use Rattle.std.proofs.Common.{◌≡◌, Bool, true, false, not, ◌||◌, IsTrue, None, Some, List, [], ◌∷◌, refl, sym, ap, ◌∙◌}
+use Rattle.std.proofs.Common.{◌≡◌, Bool, true, false, not, ◌||◌, IsTrue, None, Some, List, [], ◌∷◌, refl, sym, ap, ◌∙◌, true≢false}
 use Rattle.swc_tree_node.specs.declared.kind.Kind.{Kind}
 use Rattle.swc_tree_node.specs.declared.kind.Kind.TheVariants as kind
 use Rattle.swc_tree_node.specs.declared.slot.Slot.{Slot}
@@ -59,7 +59,7 @@ form_plain true false e h = absurd (cc)
 form_plain false b e h = absurd (cc)
 
 function_hidden : (k : Kind) (ts : List Node) → can_pair k ≡ true → function_in (Node-F.Tree k ts) ≡ false
-function_hidden kind.FnDecl ts h = absurd (cc)
+function_hidden kind.FnDecl ts h = absurd (true≢false (sym h))
 function_hidden kind.Module ts h = refl
 function_hidden _ ts h = refl
 

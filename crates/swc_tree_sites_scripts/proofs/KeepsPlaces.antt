@@ -1,5 +1,5 @@
 -- Where a tree that is settled in one place is settled in another too, and what may stand in its stead.
-use Rattle.std.proofs.Common.{◌≡◌, ℕ, zero, suc, Bool, true, false, not, ◌&&◌, ◌||◌, ⊎_elim, Option, Some, None, List, [], ◌∷◌, refl, sym, ap, ◌∙◌, subst, cond}
+use Rattle.std.proofs.Common.{◌≡◌, ℕ, zero, suc, Bool, true, false, not, ◌&&◌, ◌||◌, ⊎_elim, Option, Some, None, List, [], ◌∷◌, refl, sym, ap, ◌∙◌, subst, cond, true≢false}
 use Rattle.std.specs.List.{list_all, list_any, slice_get}
 use Rattle.std.specs.Prelude.{unwrap_or, option_map}
 use Rattle.swc_tree_marks.specs.declared.ident.Ident.{Ident}
@@ -361,7 +361,7 @@ loose_calmer : (v u : Place) (k : Kind) (ts : List Node) → Calmer v u → Meet
 loose_calmer v u kind.FnDecl ts c m e =
     loose_more (is_branch v.standing) (is_branch u.standing) v.nested u.nested (is_plain_function (slice_get ts fn_decl.FUNCTION)) v.strict u.strict (still_branch v.standing u.standing (m refl)) c.nested c.strict e
 loose_calmer v u kind.LabeledStmt ts c m e = e
-loose_calmer v u _ ts c m e = absurd (cc)
+loose_calmer v u _ ts c m e = absurd (true≢false (sym e))
 
 not_false : (a b : Bool) → (a ≡ true → b ≡ true) → b ≡ false → a ≡ false
 not_false true b f e = absurd (cc (sym e ∙ f refl))

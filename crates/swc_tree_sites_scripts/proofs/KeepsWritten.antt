@@ -1,5 +1,5 @@
 -- A tree that is settled is settled once it is written out.
-use Rattle.std.proofs.Common.{◌≡◌, ℕ, Bool, true, false, ◌||◌, IsTrue, Some, None, List, [], ◌∷◌, map, refl, sym, ap, ◌∙◌, subst, cond, rules}
+use Rattle.std.proofs.Common.{◌≡◌, ℕ, Bool, true, false, ◌||◌, IsTrue, Some, None, List, [], ◌∷◌, map, refl, sym, ap, ◌∙◌, subst, cond, rules, true≢false}
 use Rattle.std.specs.List.{list_all}
 use Rattle.std.specs.Prelude.{codes, nat_eq}
 use Rattle.std.specs.Cmp.Lexicographic.{pointwise}
@@ -235,7 +235,7 @@ patterns_keep : (t : Node) → Keeps t (Many (map as_pattern (items_of t)))
 patterns_keep = items_keep (map as_pattern) refl (λ w ts h. each_map w as_pattern (pattern_settled w) ts h)
 
 step_keeps : (k : Kind) (ts : List Node) → IsTrue (no_module k) → Keeps (Tree k ts) (written_step (Node-F.Tree k ts))
-step_keeps kind.Module ts n = absurd (cc)
+step_keeps kind.Module ts n = absurd (true≢false (sym n))
 step_keeps kind.IfStmt (a ∷ b ∷ c ∷ d ∷ []) n = tree_keeps kind.IfStmt (a ∷ b ∷ c ∷ d ∷ []) (a ∷ b ∷ opened c ∷ d ∷ []) (same a, (same b, (opened_keeps c, (same d, tt)))) (λ e. e) (λ w e. e)
 step_keeps kind.ObjectLit (a ∷ b ∷ []) n =
     tree_keeps kind.ObjectLit (a ∷ b ∷ []) (a ∷ Many (map property (items_of b)) ∷ []) (same a, (items_keep (map property) refl (λ w ts h. each_map w property (property_settled w) ts h) b, tt)) (λ e. e) (λ w e. e)
@@ -270,27 +270,27 @@ stays_code kind.BlockStmt ts e = written_tree kind.BlockStmt ts ∙ rolls-Tree k
 stays_code kind.ExprStmt ts e = written_tree kind.ExprStmt ts ∙ rolls-Tree kind.ExprStmt (map written_out ts)
 stays_code kind.Str ts e = written_tree kind.Str ts ∙ rolls-Tree kind.Str (map written_out ts)
 stays_code kind.Function ts e = written_tree kind.Function ts ∙ rolls-Tree kind.Function (map written_out ts)
-stays_code _ ts e = absurd (cc)
+stays_code _ ts e = absurd (true≢false (sym e))
 
 -- a statement stays one of its kind
 statement_step : (k : Kind) (ts : List Node) → IsTrue (belongs k class.Stmt) → (us : List Node) × (written_step (Node-F.Tree k ts) ≡ Tree k us)
 statement_step kind.IfStmt (a ∷ b ∷ c ∷ d ∷ []) e = (_, refl)
 statement_step kind.ForInStmt (a ∷ b ∷ c ∷ d ∷ []) e = (_, refl)
 statement_step kind.ForOfStmt (a ∷ b ∷ c ∷ d ∷ f ∷ []) e = (_, refl)
-statement_step kind.ObjectLit ts e = absurd (cc)
-statement_step kind.AssignPatProp ts e = absurd (cc)
-statement_step kind.ArrayPat ts e = absurd (cc)
-statement_step kind.RestPat ts e = absurd (cc)
-statement_step kind.KeyValuePatProp ts e = absurd (cc)
-statement_step kind.AssignPat ts e = absurd (cc)
-statement_step kind.Param ts e = absurd (cc)
-statement_step kind.ArrowExpr ts e = absurd (cc)
-statement_step kind.SetterProp ts e = absurd (cc)
-statement_step kind.VarDeclarator ts e = absurd (cc)
-statement_step kind.CatchClause ts e = absurd (cc)
-statement_step kind.ImportNamedSpecifier ts e = absurd (cc)
-statement_step kind.NamedExport ts e = absurd (cc)
-statement_step kind.Module ts e = absurd (cc)
+statement_step kind.ObjectLit ts e = absurd (true≢false (sym e))
+statement_step kind.AssignPatProp ts e = absurd (true≢false (sym e))
+statement_step kind.ArrayPat ts e = absurd (true≢false (sym e))
+statement_step kind.RestPat ts e = absurd (true≢false (sym e))
+statement_step kind.KeyValuePatProp ts e = absurd (true≢false (sym e))
+statement_step kind.AssignPat ts e = absurd (true≢false (sym e))
+statement_step kind.Param ts e = absurd (true≢false (sym e))
+statement_step kind.ArrowExpr ts e = absurd (true≢false (sym e))
+statement_step kind.SetterProp ts e = absurd (true≢false (sym e))
+statement_step kind.VarDeclarator ts e = absurd (true≢false (sym e))
+statement_step kind.CatchClause ts e = absurd (true≢false (sym e))
+statement_step kind.ImportNamedSpecifier ts e = absurd (true≢false (sym e))
+statement_step kind.NamedExport ts e = absurd (true≢false (sym e))
+statement_step kind.Module ts e = absurd (true≢false (sym e))
 statement_step k ts e = (ts, rolls-Tree k ts)
 
 declared : (t : Node) → Fits t (one class.Stmt) → function_in (out-Node (written_out t)) ≡ true → function_in (out-Node t) ≡ true

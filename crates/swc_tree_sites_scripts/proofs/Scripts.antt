@@ -116,7 +116,7 @@ module_stripped = by_fields (λ t. stripped (as_module t) ≡ as_module (strippe
 
 -- a statement is no export declaration, which alone are split
 statement_kind : (k : Kind) → IsTrue (belongs k class.Stmt) → is_export k ≡ false
-statement_kind kind.ExportDecl b = absurd (cc)
+statement_kind kind.ExportDecl b = absurd (true≢false (sym b))
 statement_kind _ b = refl
 
 statement_whole : (t : Node) → Fits t (one class.Stmt) → split (written_out t) ≡ written_out t ∷ []

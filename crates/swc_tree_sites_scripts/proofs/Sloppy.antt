@@ -1,6 +1,6 @@
 -- A settled script has no plain function in a block of sloppy code; and a script that has none, nor a label that names a function,
 -- is settled, if it can be written down.
-use Rattle.std.proofs.Common.{◌≡◌, ◌≢◌, ℕ, zero, suc, Bool, true, false, not, ◌&&◌, ◌||◌, ◌⊎◌, inl, inr, ⊎_elim, Option, Some, None, List, [], ◌∷◌, map, refl, sym, ap, ◌∙◌, cond, rules}
+use Rattle.std.proofs.Common.{◌≡◌, ◌≢◌, ℕ, zero, suc, Bool, true, false, not, ◌&&◌, ◌||◌, ◌⊎◌, inl, inr, ⊎_elim, Option, Some, None, List, [], ◌∷◌, map, refl, sym, ap, ◌∙◌, cond, rules, true≢false}
 use Rattle.std.specs.List.{list_all, slice_get}
 use Rattle.std.specs.Prelude.{unwrap_or, option_map}
 use Rattle.swc_tree_marks.specs.declared.ident.Ident.{Ident}
@@ -113,7 +113,7 @@ branch_of : (t : Node) (s : Bool) → may_stand s (form (asked t).whole) ≡ tru
 branch_of t s h = weaker s (form t) (sym (ap (λ t. may_stand s (form t)) (same t)) ∙ h)
 
 no_quiet : (k : Kind) (ts : List Node) → list_all is_quiet (slots_of k) ≡ true → branches_in (Node-F.Tree k ts) ≡ true
-no_quiet kind.IfStmt ts q = absurd (cc)
+no_quiet kind.IfStmt ts q = absurd (true≢false (sym q))
 no_quiet k ts q = refl
 
 by_sound : (k : Kind) (ts : List Node) → Parts branches (slots_of k) ts → (r : Round) → sound_in (Node-F.Tree k (map asked ts)) r ≡ true → branches_in (Node-F.Tree k ts) ≡ true
@@ -124,7 +124,7 @@ by_sound kind.IfStmt ts (more _ _ (more _ _ (more {t = c} _ _ (more {t = d} _ _ 
 by_sound k ts x r h = refl
 
 no_head : (k : Kind) (ts : List Node) (r : Round) → in_head_in (Node-F.Tree k (map asked ts)) r ≡ true → branches_in (Node-F.Tree k ts) ≡ true
-no_head kind.IfStmt ts r h = absurd (cc)
+no_head kind.IfStmt ts r h = absurd (true≢false (sym h))
 no_head k ts r h = refl
 
 branching : Everywhere branches (λ k ts. branches_in (Node-F.Tree k ts))
@@ -183,12 +183,12 @@ function_branch false false h = absurd (cc)
 
 -- by the standing alone, then by the kind: both at once have some 2,500 cases
 own_branch_of_default : (k : Kind) → is_branch (own_name standing.DefaultExport k) ≡ true → ⊥
-own_branch_of_default kind.FnExpr h = absurd (cc)
-own_branch_of_default _ h = absurd (cc)
+own_branch_of_default kind.FnExpr h = absurd (true≢false (sym h))
+own_branch_of_default _ h = absurd (true≢false (sym h))
 
 own_branch_of_expression : (k : Kind) → is_branch (own_name standing.Plain k) ≡ true → ⊥
-own_branch_of_expression kind.FnExpr h = absurd (cc)
-own_branch_of_expression _ h = absurd (cc)
+own_branch_of_expression kind.FnExpr h = absurd (true≢false (sym h))
+own_branch_of_expression _ h = absurd (true≢false (sym h))
 
 own_branch : (r : Standing) (k : Kind) → is_branch (own_name r k) ≡ true → ⊥
 own_branch standing.DefaultExport k h = own_branch_of_default k h

@@ -559,14 +559,14 @@ leaves t = by_children Leaves (
 
 -- a statement that ends in an `if` without `else` is no declaration
 ending_kind : (k : Kind) (ts : List Node) (bs : List Bool) → takes_else_step (Node-F.Tree k bs) ≡ true → is_branch true (form_in (Node-F.Tree k ts)) ≡ true
-ending_kind kind.VarDecl ts bs h = absurd (cc)
-ending_kind kind.FnDecl ts bs h = absurd (cc)
-ending_kind kind.ClassDecl ts bs h = absurd (cc)
-ending_kind kind.UsingDecl ts bs h = absurd (cc)
-ending_kind kind.TsInterfaceDecl ts bs h = absurd (cc)
-ending_kind kind.TsTypeAliasDecl ts bs h = absurd (cc)
-ending_kind kind.TsEnumDecl ts bs h = absurd (cc)
-ending_kind kind.TsModuleDecl ts bs h = absurd (cc)
+ending_kind kind.VarDecl ts bs h = absurd (true≢false (sym h))
+ending_kind kind.FnDecl ts bs h = absurd (true≢false (sym h))
+ending_kind kind.ClassDecl ts bs h = absurd (true≢false (sym h))
+ending_kind kind.UsingDecl ts bs h = absurd (true≢false (sym h))
+ending_kind kind.TsInterfaceDecl ts bs h = absurd (true≢false (sym h))
+ending_kind kind.TsTypeAliasDecl ts bs h = absurd (true≢false (sym h))
+ending_kind kind.TsEnumDecl ts bs h = absurd (true≢false (sym h))
+ending_kind kind.TsModuleDecl ts bs h = absurd (true≢false (sym h))
 ending_kind _ ts bs h = refl
 
 ending : (t : Node) → takes_else t ≡ true → is_branch true (form t) ≡ true

@@ -1,6 +1,6 @@
 -- Modules that can be written down are tame, and their normal form is left of them; so are scripts without plain functions
 -- in blocks of sloppy code.
-use Rattle.std.proofs.Common.{◌≡◌, true, false, IsTrue, List, [], ◌∷◌, map, refl, sym, ◌∙◌}
+use Rattle.std.proofs.Common.{◌≡◌, true, false, IsTrue, List, [], ◌∷◌, map, refl, sym, ◌∙◌, true≢false}
 use Rattle.swc_tree_node.specs.declared.kind.Kind.{Kind}
 use Rattle.swc_tree_node.specs.declared.kind.Kind.TheVariants as kind
 use Rattle.swc_tree_node.specs.declared.kind.Class.TheVariants as class
@@ -40,7 +40,7 @@ module_strict kind.Module (x ∷ []) b f = absurd f.1
 module_strict kind.Module (x ∷ y ∷ []) b f = absurd f.1.1
 module_strict kind.Module (x ∷ y ∷ z ∷ []) b f = refl
 module_strict kind.Module (x ∷ y ∷ z ∷ v ∷ ts) b f = absurd f.1.1.1
-module_strict _ ts b f = absurd (cc)
+module_strict _ ts b f = absurd (true≢false (sym b))
 
 tree_tame : (k : Kind) (ts : List Node) → IsTrue (belongs k class.Module) → FieldsFit (slots_of k) ts → Fits (Tree k ts) (one class.Module) → sound (Tree k ts) outside ≡ true → is_tame (Tree k ts) false ≡ true
 tree_tame k ts b f g h = sound_tame (Tree k ts) class.Module true false program_place refl refl g (λ e. absurd (cc)) (sound_tree k ts (code true false) ∙ sym (module_strict k ts b f) ∙ sym (sound_tree k ts outside) ∙ h)

@@ -1,5 +1,5 @@
 -- Where names are bound stand patterns, and no expression.
-use Rattle.std.proofs.Common.{◌≡◌, Bool, true, false, not, ◌&&◌, ◌||◌, IsTrue, None, List, [], ◌∷◌, map, refl, sym, ap, ◌∙◌}
+use Rattle.std.proofs.Common.{◌≡◌, Bool, true, false, not, ◌&&◌, ◌||◌, IsTrue, None, List, [], ◌∷◌, map, refl, sym, ap, ◌∙◌, true≢false}
 use Rattle.std.specs.List.{list_all}
 use Rattle.swc_tree_marks.specs.declared.ident.Ident.{Ident}
 use Rattle.swc_tree_node.specs.declared.kind.Kind.{Kind}
@@ -207,7 +207,7 @@ declarator_name a _ i h b = absurd (cc)
 
 declarator_tree : (a : Bool) (k : Kind) (ts : List Node) → IsTrue (belongs k class.VarDeclarator) → part_binds a (Node-F.Tree k ts) ≡ true
 declarator_tree a kind.VarDeclarator ts b = refl
-declarator_tree a _ ts b = absurd (cc)
+declarator_tree a _ ts b = absurd (true≢false (sym b))
 
 declarator : (a : Bool) (t : Node) → Fits t (one class.VarDeclarator) → part_binds a (out-Node t) ≡ true
 declarator a = only_node class.VarDeclarator (λ t. part_binds a (out-Node t) ≡ true) (λ k i h b. ap (part_binds a) (outs-Identifier k i) ∙ declarator_name a k i h b) (λ k ts b f g. ap (part_binds a) (outs-Tree k ts) ∙ declarator_tree a k ts b)
@@ -222,7 +222,7 @@ declarators_bind a = only_list (slot.List (content.Node class.VarDeclarator)) (�
 
 bound_name : (k : Kind) (i : Ident) → IsTrue (belongs k class.BindingIdent) → binds false (Node-F.Identifier k i) ≡ true
 bound_name kind.BindingIdent i b = refl
-bound_name _ i b = absurd (cc)
+bound_name _ i b = absurd (true≢false (sym b))
 
 no_name_tree : (k : Kind) (ts : List Node) → IsTrue (not (is_identifier k)) → IsTrue (belongs k class.BindingIdent) → ⊥
 no_name_tree kind.BindingIdent ts i b = absurd (cc)

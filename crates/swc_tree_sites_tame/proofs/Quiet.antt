@@ -1,5 +1,5 @@
 -- Names and other leaves are tame.
-use Rattle.std.proofs.Common.{◌≡◌, ℕ, Bool, true, false, List, [], ◌∷◌, map, refl, ap, ◌∙◌, rules}
+use Rattle.std.proofs.Common.{◌≡◌, ℕ, Bool, true, false, List, [], ◌∷◌, map, refl, ap, ◌∙◌, rules, sym, true≢false}
 use Rattle.std.specs.Prelude.{unwrap_or, option_map}
 use Rattle.std.specs.List.{list_all, slice_get}
 use Rattle.swc_tree_node.specs.declared.kind.Kind.{Kind}
@@ -50,10 +50,10 @@ quiet_kind kind.TplElement q = refl
 quiet_kind kind.PrivateName q = refl
 quiet_kind kind.ExportNamespaceSpecifier q = refl
 quiet_kind kind.ExportNamedSpecifier q = refl
-quiet_kind k q = absurd (cc)
+quiet_kind k q = absurd (true≢false (sym q))
 
 no_branch : (k : Kind) (ts : List Node) → list_all is_quiet (slots_of k) ≡ true → branch_tame (Node-F.Tree k (map told ts)) ≡ true
-no_branch kind.IfStmt ts q = absurd (cc)
+no_branch kind.IfStmt ts q = absurd (true≢false (sym q))
 no_branch k ts q = refl
 
 abbrev Tame : Node → Type 0

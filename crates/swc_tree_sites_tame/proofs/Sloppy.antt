@@ -1,5 +1,5 @@
 -- Nodes in sloppy code, in no block of which a plain function stands.
-use Rattle.std.proofs.Common.{◌≡◌, ◌≢◌, ℕ, zero, suc, Bool, true, false, not, ◌&&◌, ◌||◌, IsTrue, Option, Some, None, List, [], ◌∷◌, refl, sym, ap, ◌∙◌, cond}
+use Rattle.std.proofs.Common.{◌≡◌, ◌≢◌, ℕ, zero, suc, Bool, true, false, not, ◌&&◌, ◌||◌, IsTrue, Option, Some, None, List, [], ◌∷◌, refl, sym, ap, ◌∙◌, cond, true≢false}
 use Rattle.std.specs.List.{list_all, slice_get}
 use Rattle.swc_tree_marks.specs.declared.ident.Ident.{Ident}
 use Rattle.swc_tree_node.specs.declared.kind.Kind.{Kind}
@@ -151,7 +151,7 @@ constructor_place _ b = absurd (cc)
 
 constructor_class : (k : Kind) (c : Class) → is_constructor k ≡ true → belongs k c ≡ true → is_member_class c ≡ true
 constructor_class kind.Constructor c h b = constructor_place c b
-constructor_class _ c h b = absurd (cc)
+constructor_class _ c h b = absurd (true≢false (sym h))
 
 abbrev no_member : Field → Bool
 no_member f = not (is_member f.1)
@@ -217,7 +217,7 @@ around_nests kind.DoWhileStmt w b i a = refl
 around_nests kind.ForStmt w b i a = refl
 around_nests kind.ForInStmt w b i a = refl
 around_nests kind.ForOfStmt w b i a = refl
-around_nests _ w b i a = absurd (cc)
+around_nests _ w b i a = absurd (true≢false (sym a))
 
 around_sloppy : (k : Kind) (ts : List Node) (i : ℕ) → is_around k ≡ true → strict_at k ts false i ≡ false
 around_sloppy kind.WithStmt ts i a = refl
@@ -228,7 +228,7 @@ around_sloppy kind.DoWhileStmt ts i a = refl
 around_sloppy kind.ForStmt ts i a = refl
 around_sloppy kind.ForInStmt ts i a = refl
 around_sloppy kind.ForOfStmt ts i a = refl
-around_sloppy _ ts i a = absurd (cc)
+around_sloppy _ ts i a = absurd (true≢false (sym a))
 
 around_constructor : (k : Kind) → is_around k ≡ true → is_constructor k ≡ true → false ≡ true
 around_constructor kind.Constructor a h = absurd (cc)

@@ -1,5 +1,5 @@
 -- A tree that can be written down is tame if its code is strict, or no plain function stands in a block of sloppy code.
-use Rattle.std.proofs.Common.{◌≡◌, ℕ, zero, suc, Bool, true, false, not, ◌&&◌, ◌||◌, Option, Some, List, [], ◌∷◌, map, refl, sym, ap, ◌∙◌, subst, rules}
+use Rattle.std.proofs.Common.{◌≡◌, ℕ, zero, suc, Bool, true, false, not, ◌&&◌, ◌||◌, Option, Some, List, [], ◌∷◌, map, refl, sym, ap, ◌∙◌, subst, rules, true≢false}
 use Rattle.std.specs.Prelude.{if◌then◌else◌}
 use Rattle.std.specs.List.{list_all, slice_get}
 use Rattle.swc_tree_marks.specs.declared.ident.Ident.{Ident}
@@ -261,10 +261,10 @@ row kind.ExportDecl s (more _ q _ (more _ _ x none)) a n h = let p = half h in a
 row kind.Module s (more _ q _ (more _ _ x (more _ o _ none))) a n h = also (q refl) (also (x.by_sound refl false h) (also (o refl) refl))
 row kind.Script s (more _ q _ (more {t = t} _ _ x (more _ o _ none))) a n h =
     let p = half h in also (q refl) (also (x.by_sound refl false (ap (λ ts. sound t (code (s || has_use_strict ts) false)) (same_items (out-Node t)) ∙ p.1)) (also (o refl) refl))
-row kind.TsInterfaceDecl s d a n h = absurd (cc)
-row kind.TsTypeAliasDecl s d a n h = absurd (cc)
-row kind.TsEnumDecl s d a n h = absurd (cc)
-row kind.TsModuleDecl s d a n h = absurd (cc)
+row kind.TsInterfaceDecl s d a n h = absurd (true≢false (sym h))
+row kind.TsTypeAliasDecl s d a n h = absurd (true≢false (sym h))
+row kind.TsEnumDecl s d a n h = absurd (true≢false (sym h))
+row kind.TsModuleDecl s d a n h = absurd (true≢false (sym h))
 row k s d a n h = all (fields_of k) s d refl h
 
 -- of an `if` also what its first branch holds

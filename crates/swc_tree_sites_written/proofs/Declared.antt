@@ -1,5 +1,5 @@
 -- What a declaration binds is pending at it.
-use Rattle.std.proofs.Common.{◌≡◌, ℕ, zero, suc, Bool, true, false, not, ◌&&◌, ◌||◌, inl, inr, ⊎_elim, IsTrue, Some, None, List, [], ◌∷◌, ◌++◌, map, refl, sym, ap, ◌∙◌, subst, cond}
+use Rattle.std.proofs.Common.{◌≡◌, ℕ, zero, suc, Bool, true, false, not, ◌&&◌, ◌||◌, inl, inr, ⊎_elim, IsTrue, Some, None, List, [], ◌∷◌, ◌++◌, map, refl, sym, ap, ◌∙◌, subst, cond, true≢false}
 use Rattle.std.specs.List.{flat_map, list_all, slice_get}
 use Rattle.std.specs.Prelude.{unwrap_or, option_map}
 use Rattle.swc_tree_marks.specs.declared.ident.Ident.{Ident}
@@ -74,7 +74,7 @@ name_in_place _ i r n x d h = absurd h
 -- an identifier expression binds nothing
 named_nothing : (k : Kind) (i : Ident) → is_expression_in (Node-F.Identifier k i) ≡ true → own_id k i ≡ []
 named_nothing kind.Ident i h = refl
-named_nothing _ i h = absurd (cc)
+named_nothing _ i h = absurd (true≢false (sym h))
 
 expression_binds : (t : Node) → is_identifier_expression (Some t) ≡ true → bound_ids t ≡ []
 expression_binds t = by_children (λ t. is_identifier_expression (Some t) ≡ true → bound_ids t ≡ []) (

@@ -1,5 +1,5 @@
 -- A block that goes when a tree is written out.
-use Rattle.std.proofs.Common.{◌≡◌, ℕ, Bool, true, false, not, ◌||◌, inl, inr, Some, List, [], ◌∷◌, ◌++◌, map, refl, sym, ap, ◌∙◌, cond, rules}
+use Rattle.std.proofs.Common.{◌≡◌, ℕ, Bool, true, false, not, ◌||◌, inl, inr, Some, List, [], ◌∷◌, ◌++◌, map, refl, sym, ap, ◌∙◌, cond, rules, true≢false}
 use Rattle.std.specs.List.{filter, list_all}
 use Rattle.swc_tree_node.specs.declared.kind.Kind.{Kind}
 use Rattle.swc_tree_node.specs.declared.node.Node.{Node, List as Many, Identifier, Tree, the_lemmas}
@@ -50,7 +50,7 @@ opened_ending kind.WithStmt p q n b e = refl
 opened_ending kind.ForStmt p q n b e = refl
 opened_ending kind.ForInStmt p q n b e = refl
 opened_ending kind.ForOfStmt p q n b e = refl
-opened_ending _ p q n b e = absurd (cc)
+opened_ending _ p q n b e = absurd (true≢false (sym e))
 
 -- such a statement has its names wherever it stands
 ending_alike : (k : Kind) (ts : List Node) (p q : Standing) (n : Bool) → is_default p ≡ false → is_default q ≡ false → is_ending k ≡ true → S (P p n) (Tree k ts) ≡ S (P q n) (Tree k ts)
@@ -70,7 +70,7 @@ ending_in kind.WithStmt bs h = refl
 ending_in kind.ForStmt bs h = refl
 ending_in kind.ForInStmt bs h = refl
 ending_in kind.ForOfStmt bs h = refl
-ending_in _ bs h = absurd (cc)
+ending_in _ bs h = absurd (true≢false (sym h))
 
 ends : (t : Node) (n : Bool) → Fits t (one class.Stmt) → takes_else t ≡ true → S (P standing.Branch n) t ≡ S (P standing.Plain n) t
 ends t n = by_children (λ t. Fits t (one class.Stmt) → takes_else t ≡ true → S (P standing.Branch n) t ≡ S (P standing.Plain n) t) (
@@ -178,7 +178,7 @@ shaped kind.LabeledStmt ts h e = ap takes_else (rolls-Tree kind.LabeledStmt (map
 shaped kind.WhileStmt ts h e = ap takes_else (rolls-Tree kind.WhileStmt (map written_out ts)) ∙ rolled kind.WhileStmt ts h
 shaped kind.WithStmt ts h e = ap takes_else (rolls-Tree kind.WithStmt (map written_out ts)) ∙ rolled kind.WithStmt ts h
 shaped kind.ForStmt ts h e = ap takes_else (rolls-Tree kind.ForStmt (map written_out ts)) ∙ rolled kind.ForStmt ts h
-shaped _ ts h e = absurd (cc)
+shaped _ ts h e = absurd (true≢false (sym e))
 
 at : (k : Kind) (ts : List Node) → Each Takes ts → (b : Bool) → is_ending k ≡ b → takes_else (written_step (Node-F.Tree k (map written_out ts))) ≡ takes_else (Tree k ts)
 at k ts h true e = shaped k ts h e

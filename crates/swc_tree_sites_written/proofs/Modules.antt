@@ -1,5 +1,5 @@
 -- A module that is tame, written out, is left of the module.
-use Rattle.std.proofs.Common.{◌≡◌, Bool, true, false, not, ◌⊎◌, inl, inr, ⊎_elim, IsTrue, Option, Some, None, List, [], ◌∷◌, ◌++◌, map, refl, sym, ap, ◌∙◌, subst, cond}
+use Rattle.std.proofs.Common.{◌≡◌, Bool, true, false, not, ◌⊎◌, inl, inr, ⊎_elim, IsTrue, Option, Some, None, List, [], ◌∷◌, ◌++◌, map, refl, sym, ap, ◌∙◌, subst, cond, true≢false}
 use Rattle.std.specs.List.{filter, flat_map}
 use Rattle.std.proofs.lemmas.List.{append-nil}
 use Rattle.swc_tree_marks.specs.declared.ident.Ident.{Ident}
@@ -360,7 +360,7 @@ tree_whole kind.Module (x ∷ y ∷ z ∷ v ∷ ts) b f = absurd f.1.1.1
 tree_whole kind.Module (x ∷ y ∷ z ∷ []) b f =
     let l = listed y (content.Node class.ModuleItem) f.1.0 in
     subst (λ y. ModuleWhole (Tree kind.Module (x ∷ y ∷ z ∷ []))) (sym l.is) (listed_whole x z l.items)
-tree_whole _ ts b f = absurd (cc)
+tree_whole _ ts b f = absurd (true≢false (sym b))
 
 pub module_whole : (t : Node) → ModuleWhole t
 module_whole t = by_children ModuleWhole (

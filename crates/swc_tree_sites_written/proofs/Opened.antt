@@ -1,5 +1,5 @@
 -- What writing out makes of each node has the names that the node had.
-use Rattle.std.proofs.Common.{◌≡◌, Bool, true, false, not, ◌&&◌, IsTrue, Some, List, [], ◌∷◌, map, refl, sym, ap, ◌∙◌, subst, cond, rules}
+use Rattle.std.proofs.Common.{◌≡◌, Bool, true, false, not, ◌&&◌, IsTrue, Some, List, [], ◌∷◌, map, refl, sym, ap, ◌∙◌, subst, cond, rules, true≢false}
 use Rattle.swc_tree_marks.specs.declared.ident.Ident.{Ident}
 use Rattle.swc_tree_node.specs.declared.kind.Kind.{Kind}
 use Rattle.swc_tree_node.specs.declared.slot.Slot.{Slot}
@@ -120,7 +120,7 @@ specifier_tree kind.ExportNamespaceSpecifier ts b f r n =
     ap (λ u. S (P r n) (specifier u)) is
     ∙ ap (λ y. S (P r n) (specifier_in (Tree kind.ExportNamespaceSpecifier (map written_out ts)) y)) (outs-Tree kind.ExportNamespaceSpecifier (map written_out ts))
     ∙ sym (ap (S (P r n)) is)
-specifier_tree _ ts b f r n = absurd (cc)
+specifier_tree _ ts b f r n = absurd (true≢false (sym b))
 
 specifier_same : (t : Node) → SpecifierSame t
 specifier_same t = by_children SpecifierSame (

@@ -1,5 +1,5 @@
 -- A tree that is tame, written out, has the names that it had.
-use Rattle.std.proofs.Common.{◌≡◌, Bool, true, false, not, IsTrue, Some, List, [], ◌∷◌, map, refl, sym, ap, ◌∙◌, subst, cond, rules}
+use Rattle.std.proofs.Common.{◌≡◌, Bool, true, false, not, IsTrue, Some, List, [], ◌∷◌, map, refl, sym, ap, ◌∙◌, subst, cond, rules, true≢false}
 use Rattle.swc_tree_marks.specs.declared.ident.Ident.{Ident}
 use Rattle.swc_tree_node.specs.declared.kind.Kind.{Kind}
 use Rattle.swc_tree_node.specs.declared.slot.Slot.{Slot}
@@ -122,7 +122,7 @@ binding_class t = by_children (λ t. Fits t (one class.BindingIdent) → (i : Id
   where
     named_so : (k : Kind) → IsTrue (belongs k class.BindingIdent) → k ≡ kind.BindingIdent
     named_so kind.BindingIdent b = refl
-    named_so _ b = absurd (cc)
+    named_so _ b = absurd (true≢false (sym b))
 
     no_tree_in : (k : Kind) → IsTrue (not (is_identifier k)) → IsTrue (belongs k class.BindingIdent) → ⊥
     no_tree_in kind.BindingIdent a b = absurd (cc)
