@@ -1,18 +1,14 @@
 -- Options and commands, added one after another.
-use Rattle.std.proofs.Common.{◌≡◌, ◌∙◌, ℕ, ◌+◌, ◌<◌, ◌≤◌, ◌++◌, ◌&&◌, Bool, ap, sym, refl, true, false, not, List, [], ◌∷◌, drop, get_or, map, length, Some}
+use Rattle.std.proofs.Common.{◌≡◌, ◌∙◌, ℕ, ◌+◌, ◌<◌, ◌≤◌, ◌++◌, ap, sym, true, List, [], ◌∷◌, drop, get_or, map, length, rules}
 use Rattle.std.specs.Borrow.{Bor}
 use Rattle.std.specs.Prelude.{fold}
 use Rattle.std.proofs.lemmas.List.{append_assoc, append-nil, drop_all, drop_more}
 use Rattle.clap.specs.Walk.{is_empty, is_free_arg}
-use Rattle.clap.specs.Words.{AddsConflicts, App, Rule, Text, new_rule, rule_of, with_rule, with_subcommand}
+use Rattle.clap.specs.Words.{AddsConflicts, App, Rule, Text, with_rule, with_subcommand}
 use Rattle.clap.specs.declared.builder.Arg.{Arg}
-use Rattle.clap.specs.declared.builder.ArgAction.TheVariants.{Set, SetTrue}
-use Rattle.clap.specs.declared.builder.texts.Texts.TheVariants as Texts
-use Rattle.mucwathi_arguments.specs.Rules.{command_for, rule_for, rules_in, shaped, with_rules}
+use Rattle.mucwathi_arguments.specs.Rules.{command_for, rule_for, rules_in, with_rules}
 use Rattle.mucwathi_arguments.specs.declared.offers.Choice.{Choice}
 use Rattle.mucwathi_arguments.specs.declared.offers.Offer.{Offer}
-use Rattle.mucwathi_arguments.specs.declared.offers.Shape.TheVariants as shape
-use Rattle.mucwathi_arguments.specs.declared.offers.Shape.{Shape as Behind}
 
 pub rules_more : (a : App) (r : Rule) (rs : List Rule) → with_rules (with_rule a r) rs ≡ with_rules a (r ∷ rs)
 rules_more a r rs = ap (λ rules. record a { top = record a.top { rules = rules } }) (append_assoc a.top.rules (r ∷ []) rs)
@@ -52,40 +48,5 @@ module _ (all : App) where
 
 -- ---- options that do not go with others
 
-free_but : (e c n i ia u ua : Bool) → not e && (c && (n && (i && (ia && (u && ua))))) ≡ true → c ≡ true → (d : Bool) → not e && (d && (n && (i && (ia && (u && ua))))) ≡ d
-free_but e c n i ia u ua free c_true true = ap (λ x. not e && (x && (n && (i && (ia && (u && ua)))))) (sym c_true) ∙ free
-free_but false c n i ia u ua free c_true false = refl
-free_but true c n i ia u ua free c_true false = refl
-
--- an argument that was begun, told of, and set apart from others
-module _ (begun told r : Arg) (text : Bor Text) (others : List (Bor Text)) (is : told ≡ record begun { help = Some text }) (adds : AddsConflicts told r others) where
-  apart : r ≡ record begun { help = Some text; conflicts = r.conflicts }
-  apart = adds.0 ∙ ap (λ (a : Arg). record a { conflicts = r.conflicts }) is
-
-  pub named_local : begun.global ≡ false → r.global ≡ false
-  named_local local = ap (λ (a : Arg). a.global) apart ∙ local
-
-  pub named_rule : (name : Text) → rule_of begun ≡ new_rule name → begun.conflicts.items ≡ [] → rule_of r ≡ record (new_rule name) { is_free = is_empty others }
-  named_rule name rule none =
-      let added : is_empty r.conflicts.items ≡ is_empty others = ap is_empty (adds.1 ∙ ap (λ (a : Arg). a.conflicts.items ++ others) is ∙ ap (λ xs. xs ++ others) none) in
-      let free = free_but begun.exclusive (is_empty begun.conflicts.items) (is_empty begun.needs.items) (is_empty begun.r_ifs.items) (is_empty begun.r_ifs_all.items) (is_empty begun.r_unless.items) (is_empty begun.r_unless_all.items)
-          (ap (λ (x : Rule). x.is_free) rule) (ap is_empty none) (is_empty r.conflicts.items) in
-      ap rule_of apart ∙ ap (λ (x : Rule). record x { is_free = is_free_arg (record begun { conflicts = r.conflicts }) }) rule ∙ ap (λ f. record (new_rule name) { is_free = f }) (free ∙ added)
-
--- ---- what stands behind a word
-
-module _ (c : Choice) (begun : Arg) (is : rule_of begun ≡ record (new_rule c.name.now) { is_free = is_empty c.apart.now }) where
-  behind : (s : Behind) → c.shape ≡ s → record (shaped s c.name.now) { is_free = is_empty c.apart.now } ≡ rule_for c
-  behind s so = ap (λ (b : Behind). record (shaped b c.name.now) { is_free = is_empty c.apart.now }) (sym so)
-
-  pub flag_rule : (r : Arg) → c.shape ≡ shape.Flag → r ≡ record begun { long = Some c.name; action = Some SetTrue } → rule_of r ≡ rule_for c
-  flag_rule r so made = ap rule_of made ∙ ap (λ (x : Rule). record x { long = Some c.name.now; action = Some SetTrue }) is ∙ behind shape.Flag so
-
-  pub value_rule : (r : Arg) (shown : Bor Text) → c.shape ≡ shape.Value shown → r ≡ record begun { long = Some c.name; val_names = Texts.One shown; action = Some Set } → rule_of r ≡ rule_for c
-  value_rule r shown so made = ap rule_of made ∙ ap (λ (x : Rule). record x { long = Some c.name.now; value_names = 1; action = Some Set }) is ∙ behind (shape.Value shown) so
-
-  pub file_rule : (r : Arg) (shown : Bor Text) → c.shape ≡ shape.File shown → r ≡ record begun { val_names = Texts.One shown; action = Some Set } → rule_of r ≡ rule_for c
-  file_rule r shown so made = ap rule_of made ∙ ap (λ (x : Rule). record x { value_names = 1; action = Some Set }) is ∙ behind (shape.File shown) so
-
-  pub needed_rule : (r : Arg) (shown : Bor Text) → c.shape ≡ shape.Needed shown → r ≡ record begun { val_names = Texts.One shown; action = Some Set; required = true } → rule_of r ≡ rule_for c
-  needed_rule r shown so made = ap rule_of made ∙ ap (λ (x : Rule). record x { value_names = 1; action = Some Set; required = true }) is ∙ behind (shape.Needed shown) so
+pub free_with : (a r : Arg) (others : List (Bor Text)) → AddsConflicts a r others → a.conflicts.items ≡ [] → is_free_arg a ≡ true → is_free_arg r ≡ is_empty others
+free_with a r others adds none free = search rules
