@@ -5,7 +5,7 @@ ghost use Rattle.swc_tree_scoping.specs.WellScoped.{WellScoped};
 ghost use Rattle.swc_tree_renaming.specs.Apart.{IsPlainScript};
 ghost use Rattle.swc_base_resolver_program.specs.Marked.{MarksOk};
 ghost use Rattle.swc_base_rename_units.specs.Eval.{HasEval};
-ghost use Rattle.swc_base_rename_hygiene_laws.specs.Laws.{IsFinishable};
+ghost use Rattle.swc_base_renaming_laws.specs.Hygiene.{IsFinishable};
 
 use std::alloc::Global;
 use swc_base_rename_substitution::Config;

@@ -13,7 +13,7 @@ use Rattle.swc_tree_marks.specs.Globals.{Table}
 use Rattle.swc_tree_scoping.specs.Resolved.{Resolved}
 use Rattle.swc_tree_renaming.specs.Apart.{IsPlainIfScript, is_goal}
 use Rattle.swc_tree_renaming.proofs.Global.{fits_module, plain_if_module}
-use Rattle.swc_tree_sites_scripts.specs.Laws.{script_place}
+use Rattle.swc_tree_sites_kept.specs.Scripts.{script_place}
 use Rattle.swc_tree_spaces.specs.Spaces.{has_types}
 use Rattle.swc_tree_spaces_laws.specs.Laws.{ResolvedAlike, TypesAreTold}
 use Rattle.swc_tree_grammar.specs.Fixed.{recorded}
@@ -28,7 +28,7 @@ use Rattle.swc_base_rename_program.specs.Renamed.{IsHygienic}
 use Rattle.swc_base_rename_substitution.specs.declared.config.Config.{Config}
 use Rattle.swc_base_covers.specs.Covered.{IsCovered, Tells}
 use Rattle.swc_base_mangle_laws.specs.Laws.{MangledSourcesAreKept, MangledSourcesKeepForms}
-use Rattle.swc_ecma_transforms_base_apart_laws.specs.Lower.swc_ecma_transforms_base_settled_laws.specs.Settled.{ChainChangesNothing, IsAnswer}
+use Rattle.swc_ecma_transforms_base_laws.specs.Settled.{ChainChangesNothing, IsAnswer}
 use Rattle.jsbase_form.proofs.Successes.{bound}
 use Rattle.jsbase_reader.specs.declared.envelope.Envelope.{Envelope}
 use Rattle.jsbase_reader.specs.Envelopes.{envelope_in, envelope_in_text, text_in}

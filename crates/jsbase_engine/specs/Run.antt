@@ -10,7 +10,7 @@ use Rattle.swc_base_fixer_program.specs.Answers.{answer_to}
 use Rattle.swc_base_fixer.specs.Promises.{Promises}
 use Rattle.swc_base_mangle_laws.specs.Lower.swc_ecma_transforms_base_laws.specs.Headline.{KeepsItsForm, KeepsItsSource}
 use Rattle.swc_base_mangle_laws.specs.Lower.swc_ecma_transforms_base_laws.specs.Sources.{IsSource}
-use Rattle.swc_ecma_transforms_base_apart_laws.specs.Lower.swc_ecma_transforms_base_settled_laws.specs.Settled.{IsAnswer}
+use Rattle.swc_ecma_transforms_base_laws.specs.Settled.{IsAnswer}
 use Rattle.jsbase_form.specs.Reads.{Path, path_text}
 use Rattle.jsbase_reader.specs.declared.envelope.Envelope.{Envelope}
 use Rattle.jsbase_reader.specs.Envelopes.{envelope_in_text}

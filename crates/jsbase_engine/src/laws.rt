@@ -8,7 +8,7 @@ use swc_base_mangle_laws::swc_ecma_transforms_base_laws::{
     chaining_keeps_forms, chaining_keeps_sources,
 };
 use swc_base_mangle_laws::{mangled_sources_are_kept, mangled_sources_keep_forms};
-use swc_ecma_transforms_base_apart_laws::a_chain_changes_nothing;
+use swc_ecma_transforms_base_laws::a_chain_changes_nothing;
 use swc_tree_spaces_laws::{resolved_alike_without_types, types_are_told};
 
 // What a command makes of an input has all that is promised of it.

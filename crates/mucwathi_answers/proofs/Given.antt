@@ -8,13 +8,13 @@ use Rattle.mucwathi_arguments.specs.declared.task.Giving.{Giving}
 use Rattle.mucwathi_arguments.specs.declared.task.Rewriting.{Rewriting}
 use Rattle.mucwathi_arguments.specs.declared.task.Source.{Source}
 use Rattle.mucwathi_arguments.specs.declared.task.Source.TheVariants as source
-use Rattle.mucwathi_faults.specs.declared.fault.RunFault.{RunFault}
-use Rattle.mucwathi_faults.specs.declared.fault.RunFault.TheVariants.{NotKept, NotWritten, Refused, Text}
+use Rattle.mucwathi_order.specs.declared.fault.RunFault.{RunFault}
+use Rattle.mucwathi_order.specs.declared.fault.RunFault.TheVariants.{NotKept, NotWritten, Refused, Text}
 use Rattle.mucwathi_commands.specs.Faults.{IsWriteFault}
 use Rattle.mucwathi_given.specs.Given.{IsReady}
-use Rattle.mucwathi_marked.specs.Given.{IsUnmarked}
-use Rattle.mucwathi_marked.specs.Refused.{IsUnread}
-use Rattle.mucwathi_report.specs.declared.reports.Named.{Named}
+use Rattle.mucwathi_looks.specs.Given.{IsUnmarked}
+use Rattle.mucwathi_looks.specs.Refused.{IsUnread}
+use Rattle.mucwathi_looks.specs.declared.reports.Named.{Named}
 use Rattle.mucwathi_answers.specs.Answers.{IsAnswered, IsAsked, IsFaultTold, IsWell}
 use Rattle.mucwathi_answers.specs.Given.{HasFault, IsAnswerOf, IsAnsweredAs, IsAnsweredIf, IsAnsweredTo, IsGivenAnswer, IsMadeBy, IsNoProgram, IsNoText, IsNoTreeTold, IsOf, IsOfText, IsProgramOf, IsTextFault, IsUnanswered, IsUnansweredAs, with_settings}
 use Rattle.mucwathi_answers.specs.declared.answer.Answer.{Answer}

@@ -6,10 +6,10 @@ use Rattle.mucwathi_arguments.specs.declared.task.Judging.{Judging}
 use Rattle.text_parser.specs.declared.programs.Goal.{Goal}
 use Rattle.mucwathi_commands.specs.Judged.{IsJudgeFault, IsJudged}
 use Rattle.mucwathi_commands.specs.declared.judge.TextDifference.{TextDifference}
-use Rattle.mucwathi_faults.specs.declared.fault.JudgeFault.{JudgeFault}
-use Rattle.mucwathi_faults.specs.declared.fault.JudgeFault.TheVariants as judging
-use Rattle.mucwathi_report.specs.declared.reports.Named.{Named}
-use Rattle.mucwathi_report.specs.Status.{judge_status, text_status}
+use Rattle.mucwathi_order.specs.declared.fault.JudgeFault.{JudgeFault}
+use Rattle.mucwathi_order.specs.declared.fault.JudgeFault.TheVariants as judging
+use Rattle.mucwathi_looks.specs.declared.reports.Named.{Named}
+use Rattle.mucwathi_looks.specs.Status.{judge_status, text_status}
 use Rattle.mucwathi_answers.specs.Answers.{IsAskedOfTwo, IsVerdict, IsVerdictFault, SaysFault, SaysVerdict, TellsVerdict, rules_for}
 use Rattle.mucwathi_answers.specs.declared.answer.Answer.{Answer}
 

@@ -3,9 +3,9 @@ use Rattle.std.proofs.Common.{◌≡◌, ◌⊎◌, ℕ, List, Option, inl, inr,
 use Rattle.std.specs.Prelude.{Vec}
 use Rattle.text_parser.specs.declared.programs.Goal.{Goal}
 use Rattle.mucwathi_arguments.specs.declared.task.View.{View}
-use Rattle.mucwathi_faults.specs.declared.fault.RunFault.{RunFault}
-use Rattle.mucwathi_marked.specs.Lower.mucwathi_looks.specs.Looks.{IsUnlooked}
-use Rattle.mucwathi_report.specs.declared.reports.Named.{Named}
+use Rattle.mucwathi_order.specs.declared.fault.RunFault.{RunFault}
+use Rattle.mucwathi_looks.specs.Looks.{IsUnlooked}
+use Rattle.mucwathi_looks.specs.declared.reports.Named.{Named}
 use Rattle.mucwathi_answers.specs.Answers.{IsAsked, IsFaultTold, IsLooked, IsMemoryFault, IsShowFault, IsShown, IsUnshown, IsWell, Shows}
 use Rattle.mucwathi_answers.specs.declared.answer.Answer.{Answer}
 use Rattle.mucwathi_answers.proofs.Worked.{fault_status}

@@ -8,11 +8,11 @@ use Rattle.text_reader.specs.declared.fault.TextFault.TheVariants as text
 use Rattle.mucwathi_arguments.specs.declared.task.Rewriting.{Rewriting}
 use Rattle.mucwathi_commands.specs.Faults.{IsRunFault}
 use Rattle.mucwathi_commands.specs.Looks.{IsUncovered}
-use Rattle.mucwathi_faults.specs.declared.fault.RunFault.{RunFault}
-use Rattle.mucwathi_faults.specs.declared.fault.RunFault.TheVariants as running
+use Rattle.mucwathi_order.specs.declared.fault.RunFault.{RunFault}
+use Rattle.mucwathi_order.specs.declared.fault.RunFault.TheVariants as running
 use Rattle.mucwathi_order.specs.declared.order.Order.{Order}
-use Rattle.mucwathi_report.specs.declared.reports.Named.{Named}
-use Rattle.mucwathi_report.specs.Status.{run_status, text_status}
+use Rattle.mucwathi_looks.specs.declared.reports.Named.{Named}
+use Rattle.mucwathi_looks.specs.Status.{run_status, text_status}
 use Rattle.mucwathi_answers.specs.Answers.{HasExplanation, HasList, IsAnswered, IsAsked, IsAskedOfTwo, IsFaultTold, IsGoalOf, IsMemoryFault, IsTold, IsWell, IsWorked, IsWrittenOut, goal_asked, order_for}
 use Rattle.mucwathi_answers.specs.declared.answer.Answer.{Answer}
 

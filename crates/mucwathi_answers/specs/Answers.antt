@@ -21,23 +21,23 @@ use Rattle.mucwathi_commands.specs.declared.cover.CoverGap.{CoverGap}
 use Rattle.mucwathi_commands.specs.Judged.{IsJudgeFault, IsJudged}
 use Rattle.mucwathi_commands.specs.declared.judge.Rules.{Rules}
 use Rattle.mucwathi_commands.specs.declared.judge.TextDifference.{TextDifference}
-use Rattle.mucwathi_faults.specs.declared.fault.JudgeFault.{JudgeFault}
-use Rattle.mucwathi_faults.specs.declared.fault.RunFault.{RunFault}
-use Rattle.mucwathi_faults.specs.declared.fault.RunFault.TheVariants.{Refused}
+use Rattle.mucwathi_order.specs.declared.fault.JudgeFault.{JudgeFault}
+use Rattle.mucwathi_order.specs.declared.fault.RunFault.{RunFault}
+use Rattle.mucwathi_order.specs.declared.fault.RunFault.TheVariants.{Refused}
 use Rattle.mucwathi_lists.specs.declared.changes.Change.{Change}
 use Rattle.mucwathi_lists.specs.declared.lists.FreeName.{FreeName}
 use Rattle.mucwathi_lists.specs.Listed.{changes_listed, lost_listed, names_listed}
-use Rattle.mucwathi_marked.specs.Lower.mucwathi_looks.specs.Changes.{HasChanges}
-use Rattle.mucwathi_marked.specs.Lower.mucwathi_looks.specs.Looks.{IsUnlooked}
-use Rattle.mucwathi_marked.specs.Lower.mucwathi_looks.specs.Marked.{HasSigns}
-use Rattle.mucwathi_marked.specs.Lower.mucwathi_looks.specs.Names.{HasFreeNames}
-use Rattle.mucwathi_marked.specs.Lower.mucwathi_looks.specs.Trees.{HasTree}
-use Rattle.mucwathi_map.specs.Map.{IsMap}
-use Rattle.mucwathi_show.specs.Shown.{IsShown as IsShownPage}
-use Rattle.mucwathi_show.specs.Unshown.{IsUnshown as IsPageUnshown}
-use Rattle.mucwathi_report.specs.declared.reports.Named.{Named}
-use Rattle.mucwathi_report.specs.Reports.{IsCoverReport, IsDifferenceReport, IsFaultReport, IsJudgeFaultReport}
-use Rattle.mucwathi_report.specs.Status.{judge_status, run_status}
+use Rattle.mucwathi_looks.specs.Changes.{HasChanges}
+use Rattle.mucwathi_looks.specs.Looks.{IsUnlooked}
+use Rattle.mucwathi_looks.specs.Marked.{HasSigns}
+use Rattle.mucwathi_looks.specs.Names.{HasFreeNames}
+use Rattle.mucwathi_looks.specs.Trees.{HasTree}
+use Rattle.mucwathi_looks.specs.Map.{IsMap}
+use Rattle.mucwathi_looks.specs.Shown.{IsShown as IsShownPage}
+use Rattle.mucwathi_looks.specs.Unshown.{IsUnshown as IsPageUnshown}
+use Rattle.mucwathi_looks.specs.declared.reports.Named.{Named}
+use Rattle.mucwathi_looks.specs.Reports.{IsCoverReport, IsDifferenceReport, IsFaultReport, IsJudgeFaultReport}
+use Rattle.mucwathi_looks.specs.Status.{judge_status, run_status}
 use Rattle.mucwathi_answers.specs.declared.answer.Answer.{Answer}
 
 -- as what a text is read, if the name of its file tells

@@ -18,17 +18,17 @@ use Rattle.mucwathi_arguments.specs.declared.task.Giving.{Giving}
 use Rattle.mucwathi_arguments.specs.declared.task.Rewriting.{Rewriting}
 use Rattle.mucwathi_arguments.specs.declared.task.Source.{Source}
 use Rattle.mucwathi_arguments.specs.declared.task.Source.TheVariants as source
-use Rattle.mucwathi_faults.specs.declared.fault.RunFault.{RunFault}
-use Rattle.mucwathi_faults.specs.declared.fault.RunFault.TheVariants.{NotKept, NotWritten, Refused, Text}
+use Rattle.mucwathi_order.specs.declared.fault.RunFault.{RunFault}
+use Rattle.mucwathi_order.specs.declared.fault.RunFault.TheVariants.{NotKept, NotWritten, Refused, Text}
 use Rattle.mucwathi_given.specs.Faults.{IsNoTree}
 use Rattle.mucwathi_given.specs.Given.{IsMade, IsRead}
 use Rattle.mucwathi_given.specs.Refusals.{IsUnmade}
-use Rattle.mucwathi_marked.specs.declared.given.Marked.{Marked}
-use Rattle.mucwathi_marked.specs.Answered.{IsPrinted, IsResolvedMarked, IsRewrittenMarked}
-use Rattle.mucwathi_marked.specs.Given.{IsGiven, IsUnmarked}
-use Rattle.mucwathi_marked.specs.Refused.{IsUngiven, IsUnread, IsUnresolvedMarked, IsUnrewrittenMarked}
-use Rattle.mucwathi_report.specs.Reports.{no_tree_text}
-use Rattle.mucwathi_report.specs.declared.reports.Named.{Named}
+use Rattle.mucwathi_looks.specs.declared.given.Marked.{Marked}
+use Rattle.mucwathi_looks.specs.Answered.{IsPrinted, IsResolvedMarked, IsRewrittenMarked}
+use Rattle.mucwathi_looks.specs.Given.{IsGiven, IsUnmarked}
+use Rattle.mucwathi_looks.specs.Refused.{IsUngiven, IsUnread, IsUnresolvedMarked, IsUnrewrittenMarked}
+use Rattle.mucwathi_looks.specs.Reports.{no_tree_text}
+use Rattle.mucwathi_looks.specs.declared.reports.Named.{Named}
 use Rattle.mucwathi_answers.specs.Answers.{IsAnswered, IsAsked, IsFaultTold, IsWell, keeps_top, settings_for}
 use Rattle.mucwathi_answers.specs.declared.answer.Answer.{Answer}
 

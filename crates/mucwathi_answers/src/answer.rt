@@ -3,7 +3,7 @@ ghost use Rattle.std.specs.Prelude.{◌≡◌, [], IfOk};
 ghost use Rattle.mucwathi_answers.specs.Answers.{IsFaultTold};
 
 use mucwathi_commands::RunFault;
-use mucwathi_report::{Named, status_of, tell_fault};
+use mucwathi_looks::{Named, status_of, tell_fault};
 use std::alloc::{AllocError, Global};
 
 /// How many productions may be open at once.

@@ -4,8 +4,8 @@ ghost use Rattle.text_parser.specs.declared.programs.Goal.TheVariants as kinds;
 ghost use Rattle.mucwathi_arguments.specs.declared.task.Source.TheVariants as sources;
 ghost use Rattle.mucwathi_given.specs.Faults.{IsTreeFault};
 ghost use Rattle.mucwathi_given.specs.Given.{IsRead, IsReady};
-ghost use Rattle.mucwathi_marked.specs.Given.{IsUnmarked};
-ghost use Rattle.mucwathi_marked.specs.Refused.{IsUngiven, IsUnread};
+ghost use Rattle.mucwathi_looks.specs.Given.{IsUnmarked};
+ghost use Rattle.mucwathi_looks.specs.Refused.{IsUngiven, IsUnread};
 ghost use Rattle.mucwathi_answers.specs.Answers.{IsAsked, goal_asked as is_asked};
 ghost use Rattle.mucwathi_answers.specs.Given.{HasEnvelopeOf, HasFault, IsAnswerOf, IsAnsweredAs, IsEnvelopeOf, IsGivenAnswer, IsMadeBy, IsNoEnvelope, IsNoProgram, IsNoText, IsNoTreeTold, IsOfText, IsOfTree, IsProgramOf, IsRefusal, IsRemarked, IsTextFault, IsTextOfMade, IsUnanswered, IsUnansweredAs, IsUnmadeBy, IsUnremarked, IsUnwrittenAs, IsWrittenAs, goal_of, order_given, with_settings as settings_in};
 
@@ -15,8 +15,9 @@ use crate::rewriting::does_keep_top;
 use mucwathi_arguments::{Giving, Source};
 use mucwathi_commands::{Command, Goal, Memory, Order, RunFault, Settings, Style};
 use mucwathi_given::{Envelope, TreeFault, make_given, read_tree, write_tree};
-use mucwathi_marked::{give_marked, give_text, print_given, resolve_marked, rewrite_marked};
-use mucwathi_report::{Named, tell_no_tree};
+use mucwathi_looks::{
+    Named, give_marked, give_text, print_given, resolve_marked, rewrite_marked, tell_no_tree,
+};
 use std::alloc::{AllocError, Global};
 use swc_tree_marks::PassError;
 use swc_tree_node::{Kind, Node};

@@ -5,7 +5,7 @@ ghost use Rattle.mucwathi_answers.specs.Answers as spec;
 ghost use Rattle.mucwathi_answers.specs.Answers.{IsGoalOf};
 
 use mucwathi_commands::{Goal, RunFault};
-use mucwathi_report::Named;
+use mucwathi_looks::Named;
 use text_source::TextFault;
 
 // As what a text is read, by whether the name of its file ends as those of modules, or as those of scripts; none where both are open.

@@ -1,6 +1,6 @@
 //! What is said of two texts.
 ghost use Rattle.std.specs.Prelude.{◌≡◌, ◌⊎◌, codes, IfOk, MatchResult};
-ghost use Rattle.mucwathi_report.specs.Reports.{IsDifferenceReport};
+ghost use Rattle.mucwathi_looks.specs.Reports.{IsDifferenceReport};
 ghost use Rattle.mucwathi_commands.specs.Judged.{IsJudgeFault, IsJudged};
 ghost use Rattle.mucwathi_answers.specs.Answers.{IsVerdict, IsVerdictFault, SaysFault, SaysVerdict, TellsVerdict, rules_for};
 
@@ -8,7 +8,7 @@ use crate::answer::{Answer, DEPTH};
 use crate::goals::{goal_asked, goal_of_two, reach as reach_of};
 use mucwathi_arguments::Judging;
 use mucwathi_commands::{Goal, JudgeFault, NamedText, Rules, TextDifference, judge_texts};
-use mucwathi_report::{Named, status_of_judging, tell_difference, tell_judge_fault};
+use mucwathi_looks::{Named, status_of_judging, tell_difference, tell_judge_fault};
 use std::alloc::{AllocError, Global};
 
 // How far two texts were read.

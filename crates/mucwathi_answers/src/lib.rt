@@ -12,5 +12,5 @@ pub use answer::Answer;
 pub use giving::answer_given;
 pub use judging::answer_judging;
 pub use looking::answer_looking;
-pub use mucwathi_report::Named;
+pub use mucwathi_looks::Named;
 pub use rewriting::answer_rewriting;

@@ -2,8 +2,8 @@
 ghost use Rattle.std.specs.Prelude.{◌≡◌, None, IfOk, MatchResult};
 ghost use Rattle.text_parser.specs.declared.programs.Goal.TheVariants as kinds;
 ghost use Rattle.mucwathi_lists.specs.Listed.{names_listed};
-ghost use Rattle.mucwathi_marked.specs.Lower.mucwathi_looks.specs.Looks.{IsUnlooked};
-ghost use Rattle.mucwathi_marked.specs.Lower.mucwathi_looks.specs.Trees.{HasTree};
+ghost use Rattle.mucwathi_looks.specs.Looks.{IsUnlooked};
+ghost use Rattle.mucwathi_looks.specs.Trees.{HasTree};
 ghost use Rattle.mucwathi_answers.specs.Answers.{HasNameList, IsAsked, IsLooked, IsMemoryFault, IsShowFault, IsShown, IsUnshown, Shows, goal_asked as is_asked};
 
 use crate::answer::{Answer, DEPTH};
@@ -11,9 +11,7 @@ use crate::goals::{further, goal_asked, may_be_module};
 use mucwathi_arguments::View;
 use mucwathi_commands::{Goal, RunFault};
 use mucwathi_lists::{FreeName, list_names};
-use mucwathi_marked::mucwathi_looks::{free_names, mark_text, tree_of_text};
-use mucwathi_report::Named;
-use mucwathi_show::show_text;
+use mucwathi_looks::{Named, free_names, mark_text, show_text, tree_of_text};
 use std::alloc::{AllocError, Global};
 use swc_tree_marks::PassError;
 

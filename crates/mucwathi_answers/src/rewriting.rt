@@ -4,7 +4,7 @@ ghost use Rattle.text_parser.specs.declared.programs.Goal.TheVariants as kinds;
 ghost use Rattle.mucwathi_commands.specs.Faults.{IsRunFault};
 ghost use Rattle.mucwathi_commands.specs.Comments.{IsRewrittenWith};
 ghost use Rattle.mucwathi_lists.specs.Listed.{changes_listed, lost_listed};
-ghost use Rattle.mucwathi_report.specs.Reports.{IsCoverReport};
+ghost use Rattle.mucwathi_looks.specs.Reports.{IsCoverReport};
 ghost use Rattle.mucwathi_answers.specs.Answers.{HasExplanation, HasList, HasMap, IsAnswered, IsAsked, IsMemoryFault, IsTold, IsWell, IsWorked, IsWrittenOut, goal_asked as is_asked, keeps_top, memory_for as memory_of, order_for as order_of};
 ghost use Rattle.mucwathi_answers.specs.Given.{IsAnsweredTo};
 
@@ -17,9 +17,7 @@ use mucwathi_commands::{
     rewrite_with_comments,
 };
 use mucwathi_lists::{Change, list_renamed, tell_lost};
-use mucwathi_map::source_map;
-use mucwathi_marked::mucwathi_looks::list_changes;
-use mucwathi_report::{Named, tell_cover};
+use mucwathi_looks::{Named, list_changes, source_map, tell_cover};
 use std::alloc::{AllocError, Global};
 use swc_tree_marks::PassError;
 

@@ -9,11 +9,11 @@ use Rattle.swc_base_plain_form.proofs.Fitting.{plain_fits}
 use Rattle.swc_base_plain_form.proofs.Kept.{clean}
 use Rattle.text_parser.specs.declared.programs.Goal.{Goal}
 use Rattle.mucwathi_order.specs.Lower.text_source.specs.Texts.{class_of}
-use Rattle.mucwathi_faults.specs.declared.fault.JudgeFault.{JudgeFault}
-use Rattle.mucwathi_faults.specs.declared.fault.JudgeFault.TheVariants.{After, Before, Refused}
+use Rattle.mucwathi_order.specs.declared.fault.JudgeFault.{JudgeFault}
+use Rattle.mucwathi_order.specs.declared.fault.JudgeFault.TheVariants.{After, Before, Refused}
 use Rattle.mucwathi_commands.specs.Judged.{IsAfterFault, IsBeforeFault, IsJudgeFault, IsRead, IsSaid, IsUnsaid, as_compared}
 use Rattle.mucwathi_commands.specs.declared.judge.TextDifference.{TextDifference}
-use Rattle.mucwathi_faults.proofs.Programs.{is_program}
+use Rattle.mucwathi_order.proofs.Programs.{is_program}
 
 pub clean_program : (g : Goal) (text : List ℕ) (t : Node) → IsRead g text t → IsCleanProgram t
 clean_program g text t h = record { goal = slot.One (content.Node (class_of g)); is_goal = is_program g; fits = h.is_text.0.fits; clean = h.clean }

@@ -19,9 +19,9 @@ use Rattle.mucwathi_order.specs.declared.order.Style.{Style}
 use Rattle.mucwathi_order.specs.declared.order.Style.TheVariants as style
 use Rattle.mucwathi_order.specs.Styles.{layout_of}
 use Rattle.mucwathi_passes.specs.Passes.{IsRefusal, Makes}
-use Rattle.mucwathi_faults.specs.declared.fault.RunFault.{RunFault}
-use Rattle.mucwathi_faults.specs.declared.fault.RunFault.TheVariants.{NotKept, NotWritten, Refused, Text}
-use Rattle.mucwathi_faults.specs.Faults.{of_text}
+use Rattle.mucwathi_order.specs.declared.fault.RunFault.{RunFault}
+use Rattle.mucwathi_order.specs.declared.fault.RunFault.TheVariants.{NotKept, NotWritten, Refused, Text}
+use Rattle.mucwathi_order.specs.Faults.{of_text}
 use Rattle.mucwathi_commands.specs.Comments.{IsRewrittenWith, TellsLost}
 use Rattle.mucwathi_commands.specs.Faults.{IsRunFault, IsWriteFault}
 use Rattle.mucwathi_commands.specs.declared.write.RewrittenText.{RewrittenText}

@@ -4,8 +4,8 @@ use Rattle.swc_tree_marks.specs.declared.error.PassError.TheVariants as refusal
 use Rattle.swc_tree_node.specs.declared.node.Node.{Node}
 use Rattle.mucwathi_order.specs.Lower.text_source.specs.Texts.{Tells}
 use Rattle.mucwathi_order.specs.declared.order.Order.{Order}
-use Rattle.mucwathi_faults.specs.declared.fault.RunFault.{RunFault}
-use Rattle.mucwathi_faults.specs.declared.fault.RunFault.TheVariants.{NotKept, NotWritten, Refused, Text}
+use Rattle.mucwathi_order.specs.declared.fault.RunFault.{RunFault}
+use Rattle.mucwathi_order.specs.declared.fault.RunFault.TheVariants.{NotKept, NotWritten, Refused, Text}
 use Rattle.mucwathi_commands.specs.Written.{IsReadAs, IsRefusedFor}
 use Rattle.mucwathi_passes.specs.Passes.{Makes}
 

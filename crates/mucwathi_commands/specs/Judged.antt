@@ -15,8 +15,8 @@ use Rattle.text_reader.specs.declared.fault.TextFault.{TextFault}
 use Rattle.text_reader.specs.declared.fault.TextFault.TheVariants as text
 use Rattle.text_parser.specs.declared.programs.Goal.{Goal}
 use Rattle.mucwathi_order.specs.Lower.text_source.specs.Texts.{Tells}
-use Rattle.mucwathi_faults.specs.declared.fault.JudgeFault.{JudgeFault}
-use Rattle.mucwathi_faults.specs.declared.fault.JudgeFault.TheVariants.{After, Before, Refused}
+use Rattle.mucwathi_order.specs.declared.fault.JudgeFault.{JudgeFault}
+use Rattle.mucwathi_order.specs.declared.fault.JudgeFault.TheVariants.{After, Before, Refused}
 use Rattle.mucwathi_commands.specs.Written.{IsReadAs}
 use Rattle.mucwathi_commands.specs.declared.judge.Rules.{Rules}
 use Rattle.mucwathi_commands.specs.declared.judge.TextDifference.{TextDifference}

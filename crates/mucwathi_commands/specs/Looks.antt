@@ -17,8 +17,8 @@ use Rattle.mucwathi_order.specs.Lower.text_source.specs.Texts.{Tells}
 use Rattle.mucwathi_settings.specs.declared.command.Settings.{Settings}
 use Rattle.mucwathi_commands.specs.Written.{IsReadAs}
 use Rattle.mucwathi_commands.specs.declared.cover.CoverGap.{CoverGap}
-use Rattle.mucwathi_faults.specs.declared.fault.RunFault.{RunFault}
-use Rattle.mucwathi_faults.specs.declared.fault.RunFault.TheVariants.{NotKept, NotWritten, Refused, Text}
+use Rattle.mucwathi_order.specs.declared.fault.RunFault.{RunFault}
+use Rattle.mucwathi_order.specs.declared.fault.RunFault.TheVariants.{NotKept, NotWritten, Refused, Text}
 use Rattle.mucwathi_passes.specs.Passes.{config_of}
 
 abbrev pub cause_of : Option Gap → Option Cause

@@ -11,7 +11,7 @@ use Rattle.text_follow.specs.Follows.{Follows}
 use Rattle.text_lexer.specs.declared.blank.Comments.{Comments}
 use Rattle.text_pieces.specs.Pieces.{pieces}
 use Rattle.mucwathi_order.specs.Lower.text_checks.specs.Checked.{IsWellFormed}
-use Rattle.mucwathi_order.specs.Lower.text_pinned.specs.Pinned.{IsPinned}
+use Rattle.mucwathi_order.specs.Lower.text_checks.specs.Pinned.{IsPinned}
 use Rattle.text_parser.specs.declared.programs.Goal.{Goal}
 use Rattle.mucwathi_order.specs.Lower.text_source.specs.Texts.{IsTextOf, comments_of, slot_of}
 use Rattle.mucwathi_order.specs.declared.order.Order.{Order}

@@ -7,9 +7,8 @@ ghost use Rattle.swc_base_covers.specs.declared.gap.Cause.{Cause as Cause'};
 ghost use Rattle.mucwathi_commands.specs.Looks.{HasPlace, IsCoverTold, IsPlaceOf, IsUncovered, cause_in, cause_of};
 
 use crate::places::place_at;
-use mucwathi_faults::RunFault;
 use mucwathi_order::text_source::read_text;
-use mucwathi_order::{Goal, Settings};
+use mucwathi_order::{Goal, RunFault, Settings};
 use mucwathi_passes::config_of;
 use std::alloc::Global;
 use swc_base_covers::{Cause, Gap, covers};

@@ -7,9 +7,8 @@ ghost use Rattle.swc_base_alpha.specs.Verdict.{IsCleanProgram, IsJudgeRefusal, w
 ghost use Rattle.mucwathi_commands.specs.Judged.{IsAfterFault, IsBeforeFault, IsJudgeFault, IsJudged, IsPlaced, IsRead, IsSaid, IsUnread, IsUnsaid, as_compared, why_in};
 
 use crate::places::bytes_before;
-use mucwathi_faults::JudgeFault;
-use mucwathi_order::Goal;
 use mucwathi_order::text_source::{TextFault, read_text};
+use mucwathi_order::{Goal, JudgeFault};
 use std::alloc::Global;
 use swc_base_alpha::{Cause, Unplaced, Why, why_different};
 use swc_base_plain_form::plain_form;

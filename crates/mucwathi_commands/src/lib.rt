@@ -12,8 +12,7 @@ mod write;
 
 pub use cover::{CoverGap, cover_text};
 pub use judge::{NamedText, Rules, TextDifference, judge_texts};
-pub use mucwathi_faults::{JudgeFault, RunFault};
-pub use mucwathi_order::{Command, Goal, Memory, Order, Settings, Style};
+pub use mucwathi_order::{Command, Goal, JudgeFault, Memory, Order, RunFault, Settings, Style};
 pub use rewrite::{rewrite_text, rewrite_with_comments};
 pub use swc_base_alpha::Why;
 pub use swc_base_covers::Cause;

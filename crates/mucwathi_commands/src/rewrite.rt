@@ -12,9 +12,8 @@ ghost use Rattle.mucwathi_commands.specs.Written.{IsReadAs, IsRewritten};
 
 use crate::apart::{pieces_again, texts_of};
 use crate::write::{RewrittenText, comments_in, edit_by, print_compact, print_with};
-use mucwathi_faults::RunFault;
 use mucwathi_order::text_source::read_text;
-use mucwathi_order::{Memory, Order};
+use mucwathi_order::{Memory, Order, RunFault};
 use mucwathi_passes::make;
 use std::alloc::Global;
 use std::mem::forget;

@@ -11,8 +11,7 @@ ghost use Rattle.mucwathi_commands.specs.Comments.{AreWrittenAgain};
 ghost use Rattle.mucwathi_commands.specs.Faults.{IsWriteFault};
 ghost use Rattle.mucwathi_commands.specs.Written.{IsKept};
 
-use mucwathi_faults::RunFault;
-use mucwathi_order::Goal;
+use mucwathi_order::{Goal, RunFault};
 use std::alloc::{AllocError, Global};
 use swc_tree_marks::PassError;
 use swc_tree_node::Node;

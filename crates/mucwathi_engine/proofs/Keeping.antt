@@ -10,13 +10,13 @@ use Rattle.swc_base_rename_substitution.specs.declared.config.Config.{Config}
 use Rattle.mucwathi_laws.specs.Lower.swc_ecma_transforms_base_laws.specs.Sources.{IsSource}
 use Rattle.text_parser.specs.declared.programs.Goal.{Goal}
 use Rattle.text_source.specs.Texts.{class_of, slot_of}
-use Rattle.mucwathi_laws.specs.Lower.text_kept_chain_laws.specs.Laws.{HasTexts}
+use Rattle.mucwathi_laws.specs.Lower.text_kept_laws.specs.Chain.{HasTexts}
 use Rattle.mucwathi_settings.specs.declared.command.Settings.{Settings}
 use Rattle.mucwathi_order.specs.declared.order.Order.{Order}
 use Rattle.mucwathi_passes.specs.Passes.{Makes, config_of}
-use Rattle.mucwathi_faults.specs.declared.fault.RunFault.{RunFault}
-use Rattle.mucwathi_faults.specs.declared.fault.RunFault.TheVariants.{NotKept, NotWritten, Refused, Text}
-use Rattle.mucwathi_faults.proofs.Programs.{is_program}
+use Rattle.mucwathi_order.specs.declared.fault.RunFault.{RunFault}
+use Rattle.mucwathi_order.specs.declared.fault.RunFault.TheVariants.{NotKept, NotWritten, Refused, Text}
+use Rattle.mucwathi_order.proofs.Programs.{is_program}
 use Rattle.mucwathi_laws.specs.Promises.{IsCovered, PromisesAreKept, TargetsAreSpared, TextsAreKept, TokensAreKept}
 use Rattle.mucwathi_commands.specs.Comments.{IsRewrittenWith}
 use Rattle.mucwathi_commands.specs.Faults.{IsRunFault, IsUnwritten}

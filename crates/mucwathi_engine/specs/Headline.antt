@@ -3,12 +3,12 @@ use Rattle.std.specs.Prelude.{◌≡◌, ◌⊎◌, ℕ, List, Option, None}
 use Rattle.swc_tree_marks.specs.declared.error.PassError.TheVariants as refusal
 use Rattle.text_parser.specs.declared.programs.Goal.{Goal}
 use Rattle.text_source.specs.Texts.{Tells, comments_of, slot_of}
-use Rattle.mucwathi_laws.specs.Lower.text_kept_chain_laws.specs.Laws.{HasTexts}
+use Rattle.mucwathi_laws.specs.Lower.text_kept_laws.specs.Chain.{HasTexts}
 use Rattle.mucwathi_settings.specs.declared.command.Settings.{Settings}
 use Rattle.mucwathi_order.specs.declared.order.Order.{Order}
 use Rattle.mucwathi_order.specs.Styles.{layout_of}
-use Rattle.mucwathi_faults.specs.declared.fault.RunFault.{RunFault}
-use Rattle.mucwathi_faults.specs.declared.fault.RunFault.TheVariants.{NotKept, NotWritten, Refused, Text}
+use Rattle.mucwathi_order.specs.declared.fault.RunFault.{RunFault}
+use Rattle.mucwathi_order.specs.declared.fault.RunFault.TheVariants.{NotKept, NotWritten, Refused, Text}
 use Rattle.mucwathi_laws.specs.Promises.{IsCovered, Keeps, KeepsTokens, SparesTargets}
 use Rattle.mucwathi_commands.specs.Comments.{TellsLost}
 use Rattle.mucwathi_commands.specs.Faults.{IsUnwritten}

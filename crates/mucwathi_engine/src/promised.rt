@@ -4,9 +4,8 @@ ghost use Rattle.mucwathi_commands.specs.Looks.{IsUncovered};
 ghost use Rattle.mucwathi_engine.specs.Headline.{IsPromised, IsPromisedFault, IsPromisedWith, IsToldToBePromised};
 
 use mucwathi_commands::{CoverGap, RewrittenText};
-use mucwathi_faults::RunFault;
 use mucwathi_laws::{promises_are_kept, targets_are_spared, texts_are_kept, tokens_are_kept};
-use mucwathi_order::{Goal, Order, Settings};
+use mucwathi_order::{Goal, Order, RunFault, Settings};
 use std::alloc::Global;
 
 /// What a command makes of a text: `rewrite_text` of `mucwathi_commands`.

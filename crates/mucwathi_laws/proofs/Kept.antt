@@ -15,11 +15,11 @@ use Rattle.swc_base_fixer_laws.specs.Laws.{NormalFormStays}
 use Rattle.swc_base_fixer_program.specs.Answers.{answer_to}
 use Rattle.swc_base_fixer.specs.Promises.{AnswersKeepPromises, Promises}
 use Rattle.swc_base_mangle_laws.specs.Laws.{MangledSourcesAreKept, MangledSourcesKeepForms}
-use Rattle.swc_base_mangle_laws.specs.Lower.swc_base_rename_errors_laws.proofs.Programs.{goal_open}
-use Rattle.swc_base_rename_hygiene_laws.specs.Laws.{HygieneStaysFitting}
+use Rattle.swc_base_mangle_laws.specs.Lower.swc_base_renaming_laws.proofs.ErrorsPrograms.{goal_open}
+use Rattle.swc_base_renaming_laws.specs.Hygiene.{HygieneStaysFitting}
 use Rattle.swc_base_mangle_laws.specs.Lower.swc_ecma_transforms_base_laws.specs.Headline.{ChainingKeepsForms, ChainingKeepsSources, KeepsItsForm, KeepsItsSource}
 use Rattle.swc_base_mangle_laws.specs.Lower.swc_ecma_transforms_base_laws.specs.Sources.{IsSource, ResolvedSourcesHaveTheirForm}
-use Rattle.text_kept_pieces_laws.specs.Laws.{BoundNamesAloneDiffer}
+use Rattle.text_kept_laws.specs.Pieces.{BoundNamesAloneDiffer}
 use Rattle.mucwathi_settings.specs.declared.command.Command.{Command}
 use Rattle.mucwathi_settings.specs.declared.command.Command.TheVariants as command
 use Rattle.mucwathi_settings.specs.declared.command.Settings.{Settings}

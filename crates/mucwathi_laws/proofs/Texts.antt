@@ -9,9 +9,9 @@ use Rattle.swc_tree_renaming.specs.Apart.{is_goal}
 use Rattle.swc_tree_grammar.specs.Fixed.{recorded}
 use Rattle.swc_tree_grammar.specs.Pairs.{pairs}
 use Rattle.swc_base_fixer_program.specs.Answers.{answer_to}
-use Rattle.swc_base_mangle_laws.specs.Lower.swc_base_rename_errors_laws.proofs.Programs.{goal_open}
+use Rattle.swc_base_mangle_laws.specs.Lower.swc_base_renaming_laws.proofs.ErrorsPrograms.{goal_open}
 use Rattle.swc_base_rename_substitution.specs.Room.{has_room}
-use Rattle.text_kept_chain_laws.specs.Laws.{FixerKeepsTexts, HasTexts, HygieneKeepsTexts, ShortNamesKeepTexts, UnparenKeepsTexts}
+use Rattle.text_kept_laws.specs.Chain.{FixerKeepsTexts, HasTexts, HygieneKeepsTexts, ShortNamesKeepTexts, UnparenKeepsTexts}
 use Rattle.mucwathi_settings.specs.declared.command.Command.{Command}
 use Rattle.mucwathi_settings.specs.declared.command.Command.TheVariants as command
 use Rattle.mucwathi_settings.specs.declared.command.Settings.{Settings}

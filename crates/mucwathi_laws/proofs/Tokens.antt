@@ -13,13 +13,13 @@ use Rattle.swc_tree_grammar.specs.Same.{SameButForBoundNames}
 use Rattle.swc_base_fixer_laws.specs.Laws.{TargetsStandBare}
 use Rattle.swc_base_fixer_program.specs.Answers.{answer_to}
 use Rattle.swc_base_mangle_laws.specs.Laws.{MangledSourcesKeepForms}
-use Rattle.swc_base_rename_hygiene_laws.specs.Laws.{HygieneStaysFitting}
+use Rattle.swc_base_renaming_laws.specs.Hygiene.{HygieneStaysFitting}
 use Rattle.swc_base_rename_substitution.specs.Room.{has_room}
 use Rattle.swc_base_mangle_laws.specs.Lower.swc_ecma_transforms_base_laws.specs.Headline.{ChainingKeepsForms}
 use Rattle.swc_base_mangle_laws.specs.Lower.swc_ecma_transforms_base_laws.specs.Sources.{IsSource, ResolvedSourcesHaveTheirForm}
-use Rattle.text_kept_chain_laws.specs.Laws.{HasTexts, ShortNamesKeepTexts}
-use Rattle.text_kept_tokens_laws.specs.Laws.{ChainsKeepTokens}
-use Rattle.text_kept_tokens_laws.specs.Written.{HasTokensOf}
+use Rattle.text_kept_laws.specs.Chain.{HasTexts, ShortNamesKeepTexts}
+use Rattle.text_kept_laws.specs.Tokens.{ChainsKeepTokens}
+use Rattle.text_kept_laws.specs.Written.{HasTokensOf}
 use Rattle.mucwathi_settings.specs.declared.command.Command.{Command}
 use Rattle.mucwathi_settings.specs.declared.command.Command.TheVariants as command
 use Rattle.mucwathi_settings.specs.declared.command.Settings.{Settings}

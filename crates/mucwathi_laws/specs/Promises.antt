@@ -14,9 +14,9 @@ use Rattle.swc_base_mangle_laws.specs.Lower.swc_ecma_transforms_base_laws.specs.
 use Rattle.swc_tree_grammar.specs.Normal.{normal_form}
 use Rattle.swc_tree_grammar.specs.Same.{declared_names}
 use Rattle.text_pieces.specs.Pieces.{pieces}
-use Rattle.text_kept_pieces_laws.specs.Bound.{SameButBound}
-use Rattle.text_kept_chain_laws.specs.Laws.{HasTexts}
-use Rattle.text_kept_tokens_laws.specs.Written.{HasTokensOf}
+use Rattle.text_kept_laws.specs.Bound.{SameButBound}
+use Rattle.text_kept_laws.specs.Chain.{HasTexts}
+use Rattle.text_kept_laws.specs.Written.{HasTokensOf}
 use Rattle.mucwathi_settings.specs.declared.command.Command.{Command}
 use Rattle.mucwathi_settings.specs.declared.command.Command.TheVariants as command
 use Rattle.mucwathi_settings.specs.declared.command.Settings.{Settings}

@@ -9,12 +9,11 @@ use swc_base_mangle_laws::swc_ecma_transforms_base_laws::{
     chaining_keeps_forms, chaining_keeps_sources, resolved_sources_have_their_form,
 };
 use swc_base_mangle_laws::{mangled_sources_are_kept, mangled_sources_keep_forms};
-use swc_base_rename_hygiene_laws::hygiene_stays_fitting;
-use text_kept_chain_laws::{
-    fixer_keeps_texts, hygiene_keeps_texts, short_names_keep_texts, unparen_keeps_texts,
+use swc_base_renaming_laws::hygiene_stays_fitting;
+use text_kept_laws::{
+    bound_names_alone_differ, chains_keep_tokens, fixer_keeps_texts, hygiene_keeps_texts,
+    short_names_keep_texts, unparen_keeps_texts,
 };
-use text_kept_pieces_laws::bound_names_alone_differ;
-use text_kept_tokens_laws::chains_keep_tokens;
 
 /// What a command makes of a program has all that is promised of it.
 pub fn promises_are_kept()

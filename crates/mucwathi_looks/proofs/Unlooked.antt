@@ -4,7 +4,7 @@ use Rattle.text_parser.specs.declared.programs.Goal.{Goal}
 use Rattle.text_reader.specs.declared.fault.TextFault.{TextFault}
 use Rattle.text_reader.specs.declared.fault.TextFault.TheVariants as text
 use Rattle.text_source.specs.Texts.{Tells}
-use Rattle.mucwathi_faults.specs.Faults.{of_text}
+use Rattle.mucwathi_order.specs.Faults.{of_text}
 use Rattle.mucwathi_looks.specs.Looks.{IsUnlooked}
 
 pub unlooked : (g : Goal) (bytes : List ℕ) (f : TextFault) → Tells bytes f → IsUnlooked g bytes (of_text f)

@@ -7,8 +7,8 @@ use Rattle.swc_tree_scoping.specs.declared.places.Standing.{Standing}
 use Rattle.swc_tree_scoping.specs.Places.{program_place}
 use Rattle.swc_tree_walk.specs.Sites.{sites}
 use Rattle.text_source.specs.Texts.{SpansAreOf}
-use Rattle.mucwathi_faults.specs.declared.fault.RunFault.{RunFault}
-use Rattle.mucwathi_faults.specs.declared.fault.RunFault.TheVariants.{Refused}
+use Rattle.mucwathi_order.specs.declared.fault.RunFault.{RunFault}
+use Rattle.mucwathi_order.specs.declared.fault.RunFault.TheVariants.{Refused}
 use Rattle.mucwathi_commands.specs.Lower.mucwathi_order.specs.declared.order.Order.{Order}
 use Rattle.mucwathi_passes.specs.Passes.{Makes}
 use Rattle.mucwathi_commands.specs.Written.{IsReadAs}

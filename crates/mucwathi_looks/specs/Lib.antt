@@ -4,4 +4,15 @@ pub mod Marked
 pub mod Names
 pub mod Signs
 pub mod Trees
-pub mod Lower
+pub mod Answered
+pub mod Given
+pub mod Refused
+pub mod Map
+pub mod Spots
+pub mod Coloured
+pub mod Numbered
+pub mod Shown
+pub mod Unshown
+pub mod Excerpts
+pub mod Reports
+pub mod Status

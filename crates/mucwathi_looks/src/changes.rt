@@ -8,8 +8,8 @@ ghost use Rattle.mucwathi_lists.specs.Changed.{seen, told};
 ghost use Rattle.mucwathi_looks.specs.Changes.{HasChanges, IsWantOfMemory, changes_between as all_between, seen_of};
 
 use mucwathi_commands::mucwathi_order::Order;
-use mucwathi_faults::RunFault;
 use mucwathi_lists::{Change, Occurrence, changes_between};
+use mucwathi_order::RunFault;
 use mucwathi_passes::make;
 use std::alloc::{AllocError, Global};
 use swc_tree_marks::PassError;

@@ -8,7 +8,7 @@ ghost use Rattle.mucwathi_looks.specs.Marked.{HasOwnSigns, HasSigns};
 
 use crate::signs::signs_at;
 use mucwathi_commands::mucwathi_order::Goal;
-use mucwathi_faults::RunFault;
+use mucwathi_order::RunFault;
 use mucwathi_passes::{own_marks, resolve};
 use mucwathi_signs::put_signs;
 use std::alloc::Global;

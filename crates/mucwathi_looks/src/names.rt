@@ -9,8 +9,8 @@ ghost use Rattle.mucwathi_looks.specs.Looks.{IsLookRefusal, IsUnlooked};
 
 use crate::places::bytes_before;
 use mucwathi_commands::mucwathi_order::Goal;
-use mucwathi_faults::RunFault;
 use mucwathi_lists::FreeName;
+use mucwathi_order::RunFault;
 use mucwathi_passes::{own_marks, resolve, unresolved};
 use std::alloc::{AllocError, Global};
 use std::collections::BTreeSet;

@@ -8,7 +8,7 @@ ghost use Rattle.mucwathi_looks.specs.Trees.{HasEnvelope, HasTree};
 
 use jsbase_writer::write_envelope;
 use mucwathi_commands::mucwathi_order::Goal;
-use mucwathi_faults::RunFault;
+use mucwathi_order::RunFault;
 use mucwathi_passes::{own_marks, resolve, top, unresolved};
 use std::alloc::Global;
 use swc_tree_marks::PassError;

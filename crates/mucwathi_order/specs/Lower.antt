@@ -1,4 +1,3 @@
 -- Libraries below that crates above name through this one.
 pub use Rattle.text_source.specs.Lower.text_checks
-pub use Rattle.text_source.specs.Lower.text_pinned
 pub use Rattle.text_source

@@ -16,13 +16,13 @@ use Rattle.swc_tree_grammar.specs.Fixed.{fixed}
 use Rattle.swc_tree_grammar.specs.Writable.{is_identifier_text}
 use Rattle.swc_tree_grammar.specs.Targets.{all_bare}
 use Rattle.swc_base_rename_analysis.specs.Named.{Renaming}
-use Rattle.swc_ecma_transforms_base_laws.specs.Lower.swc_base_rename_hygiene_laws.specs.Renamers.{IsLawful, IsRenamedAndCleared, KeepsTopApart, SparesGlobalValues}
+use Rattle.swc_ecma_transforms_base_laws.specs.Lower.swc_base_renaming_laws.specs.Renamers.{IsLawful, IsRenamedAndCleared, KeepsTopApart, SparesGlobalValues}
 use Rattle.swc_base_rename_by_use.specs.ByUse.{moved, own}
 use Rattle.swc_base_rename_by_use.specs.ByUseLaws.{below as fits-by_use}
 use Rattle.swc_base_rename_by_use.specs.declared.by_use.TextsByUse.{TextsByUse}
 use Rattle.swc_base_rename_program.specs.Renamed.{IsRead, IsRenamedBy}
-use Rattle.swc_base_rename_short_texts.specs.ShortLaws.{identifier-short, none_is_withheld}
-use Rattle.swc_base_rename_short_texts.specs.ShortTexts.{short_text}
+use Rattle.swc_base_rename_by_use.specs.ShortLaws.{identifier-short, none_is_withheld}
+use Rattle.swc_base_rename_by_use.specs.ShortTexts.{short_text}
 use Rattle.swc_base_rename_substitution.specs.declared.config.Config.{Config}
 use Rattle.swc_base_mangle.specs.Mangled.{HasStrays, IsRenamedByUse, mangling}
 use Rattle.swc_base_mangle.specs.Own.{is_own, stands_in}

@@ -1,3 +1,3 @@
 -- Libraries below that crates above name through this one.
-pub use Rattle.swc_ecma_transforms_base_laws.specs.Lower.swc_base_rename_errors_laws
+pub use Rattle.swc_ecma_transforms_base_laws.specs.Lower.swc_base_renaming_laws
 pub use Rattle.swc_ecma_transforms_base_laws

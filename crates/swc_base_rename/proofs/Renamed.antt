@@ -8,7 +8,7 @@ use Rattle.swc_tree_scoping.specs.BoundNames.{Id}
 use Rattle.swc_base_rename_naming.specs.Ids.{HasJust}
 use Rattle.swc_base_rename_program.specs.declared.mode.Mode.{Mode}
 use Rattle.swc_base_rename_program.specs.Renamed.{IsRenameRefusal, IsRenamedBy, renaming}
-use Rattle.swc_base_rename_hygiene_laws.specs.Renamers.{IsRenamedAndCleared}
+use Rattle.swc_base_renaming_laws.specs.Renamers.{IsRenamedAndCleared}
 use Rattle.swc_base_rename_substitution.specs.declared.config.Config.{Config}
 use Rattle.swc_base_rename_substitution.specs.Names.{same_id}
 

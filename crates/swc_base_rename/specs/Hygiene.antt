@@ -7,7 +7,7 @@ use Rattle.swc_tree_grammar.specs.Normal.{normal_form}
 use Rattle.swc_tree_grammar.specs.Writable.{Writable}
 use Rattle.swc_base_rename_program.specs.Renamed.{IsHygienic, IsRenameRefusal, hygiene_renaming}
 use Rattle.swc_base_rename_laws.specs.NewNames.{SameButForNames}
-use Rattle.swc_base_rename_hygiene_laws.specs.Laws.{IsPlain}
+use Rattle.swc_base_renaming_laws.specs.Hygiene.{IsPlain}
 use Rattle.swc_base_rename.specs.declared.hygienic.Hygiene.{Hygiene}
 
 -- names are given and contexts are empty; where no name is kept for a reader, the normal form of a module that can be written down is

@@ -9,10 +9,10 @@ use Rattle.swc_tree_spaces.specs.Spaces.{has_types}
 use Rattle.swc_base_rename_analysis.specs.Named.{Renaming}
 use Rattle.swc_base_rename_program.specs.Renamed.{IsRenameRefusal, IsRenamedBy}
 use Rattle.swc_base_rename_naming.specs.Counters.{greatest}
-use Rattle.swc_base_rename_units_laws.specs.Lower.swc_base_rename_tries_laws.specs.Laws.{TellsApart}
-use Rattle.swc_base_rename_units_laws.specs.Bounds.{IsFlat, IsOfCrowding, TakesFew}
+use Rattle.swc_base_renaming_laws.specs.Tries.{TellsApart}
+use Rattle.swc_base_renaming_laws.specs.Bounds.{IsFlat, IsOfCrowding, TakesFew}
 use Rattle.swc_base_rename_substitution.specs.declared.config.Config.{Config}
-use Rattle.swc_base_rename_hygiene_laws.specs.Renamers.{IsRenamedAndCleared}
+use Rattle.swc_base_renaming_laws.specs.Renamers.{IsRenamedAndCleared}
 use Rattle.swc_base_rename.specs.declared.renaming.RenamePass.{RenamePass}
 
 module _ {X : Type 0} (text : X → Id → ℕ → List ℕ) (preserved : X → Node → Id → Bool) (asked : X → Node → X → Type 0) (mangles resets : Bool) where

@@ -10,7 +10,7 @@ use std::alloc::Global;
 use std::mem;
 use swc_base_rename_program::hygiene_program;
 use swc_base_rename_substitution::Config;
-use swc_base_rename_texts_laws::hygiene_keeps_spans;
+use swc_base_renaming_laws::hygiene_keeps_spans;
 use swc_tree::{JsPass, empty_module, empty_script, types_in_module, types_in_script};
 use swc_tree_handle::Opened;
 use swc_tree_marks::{Globals, PassError};

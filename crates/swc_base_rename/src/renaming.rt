@@ -10,7 +10,7 @@ use std::mem;
 use swc_base_rename_naming::NewTexts;
 use swc_base_rename_program::{Mode, rename_program};
 use swc_base_rename_substitution::Config;
-use swc_base_rename_units_laws::{maps_have_bounds, refusals_are_of_crowding};
+use swc_base_renaming_laws::{maps_have_bounds, refusals_are_of_crowding};
 use swc_tree::{JsPass, empty_module, empty_script, types_in_module, types_in_script};
 use swc_tree_handle::Opened;
 use swc_tree_marks::{Globals, Id, JsWord, PassError};

@@ -3,7 +3,7 @@ ghost use Rattle.std.specs.Prelude.{IfOk, IfErr, OnOk, OnErr};
 ghost use Rattle.std.specs.HashSet.{contains};
 ghost use Rattle.swc_tree.specs.Passes.{IsEmptied, IsEmptiedScript};
 ghost use Rattle.swc_tree_modules.specs.Nodes.{module_node, script_node};
-ghost use Rattle.swc_base_rename_hygiene_laws.specs.Renamers.{IsLawful, IsRenamedAndCleared};
+ghost use Rattle.swc_base_renaming_laws.specs.Renamers.{IsLawful, IsRenamedAndCleared};
 ghost use Rattle.swc_base_rename_program.specs.Renamed.{IsRenameRefusal, renaming};
 ghost use Rattle.swc_base_rename_substitution.specs.Names.{same_id};
 ghost use Rattle.swc_base_rename_substitution.specs.Room.{FitsAs};

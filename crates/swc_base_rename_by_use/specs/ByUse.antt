@@ -4,7 +4,7 @@ use Rattle.std.specs.Cmp.Lexicographic.{slice_cmp}
 use Rattle.std.specs.BTreeMap.{get_by}
 use Rattle.std.specs.Ordering.{nat_cmp, ordering_then}
 use Rattle.swc_base_rename_substitution.specs.Names.{Id}
-use Rattle.swc_base_rename_short_texts.specs.ShortTexts.{short_text}
+use Rattle.swc_base_rename_by_use.specs.ShortTexts.{short_text}
 use Rattle.swc_base_rename_by_use.specs.declared.by_use.TextsByUse.{TextsByUse}
 
 -- a counter, if a `usize` holds it

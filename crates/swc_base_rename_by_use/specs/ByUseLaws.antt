@@ -3,7 +3,7 @@ use Rattle.std.proofs.Common.{◌≡◌, ℕ, ◌<◌, ◌^◌, List, IsTrue, ar
 use Rattle.std.proofs.lemmas.Bool.Decides.{nat_tests}
 use Rattle.swc_base_rename_substitution.specs.Names.{Id}
 use Rattle.swc_tree_grammar.specs.Writable.{is_identifier_text}
-use Rattle.swc_base_rename_short_texts.specs.ShortLaws.{differ-short, identifier-short}
+use Rattle.swc_base_rename_by_use.specs.ShortLaws.{differ-short, identifier-short}
 use Rattle.swc_base_rename_by_use.specs.ByUse.{held, moved, own, put_down, text_by_use}
 use Rattle.swc_base_rename_by_use.specs.declared.by_use.TextsByUse.{TextsByUse}
 

@@ -1,2 +1,4 @@
+pub mod ShortTexts
+pub mod ShortLaws
 pub mod ByUse
 pub mod ByUseLaws

@@ -4,10 +4,10 @@ ghost use Rattle.swc_base_rename_substitution.specs.Names.{Id as Id'};
 ghost use Rattle.swc_base_rename_by_use.specs.ByUse.{moved as is_moved, own as is_own, text_by_use};
 ghost use Rattle.swc_base_rename_by_use.specs.ByUseLaws.{differ-by_use};
 
+use crate::short_text;
 use std::alloc::Global;
 use std::collections::BTreeMap;
-use swc_base_rename_short_texts::short_text;
-use swc_base_rename_short_texts::swc_base_rename_naming::NewTexts;
+use swc_base_rename_naming::NewTexts;
 use swc_tree_marks::{Id, JsWord, PassError};
 
 /// Gives each id first the short text of the counter that is put down for it, and then the other short texts in order.

@@ -3,13 +3,13 @@
 use crate::alphabet::{Alphabet, place_of_text};
 use crate::by_use::TextsByUse;
 use crate::characters::characters_of;
+use crate::counter_at;
 use crate::known::Known;
 use crate::read::{Program, read_analysis, read_items};
 use crate::slots::{Slots, give_slots};
 use std::alloc::Global;
 use std::collections::{BTreeMap, BTreeSet, HashSet};
 use swc_base_rename_analysis::Analysis;
-use swc_base_rename_short_texts::counter_at;
 use swc_tree_marks::{Id, NoMemory};
 use swc_tree_node::fields::{module_, script};
 use swc_tree_node::{Kind, Node};

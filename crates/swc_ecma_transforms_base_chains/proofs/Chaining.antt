@@ -3,7 +3,7 @@ use Rattle.std.proofs.Common.{◌≡◌, ◌≢◌, true, false, IsTrue, ℕ, �
 use Rattle.swc_base_fixer_unparen.specs.Moves.{Moving}
 use Rattle.swc_base_rename_analysis.specs.Named.{Renaming}
 use Rattle.swc_base_rename_program.specs.Renamed.{hygiene_renaming}
-use Rattle.swc_base_rename_hygiene_laws.specs.Renamers.{IsLawful, IsRenamedAndCleared, KeepsTopApart}
+use Rattle.swc_base_renaming_laws.specs.Renamers.{IsLawful, IsRenamedAndCleared, KeepsTopApart}
 use Rattle.swc_tree_marks.specs.declared.error.PassError.{PassError}
 use Rattle.swc_tree_marks.specs.declared.error.PassError.TheVariants as error
 use Rattle.swc_tree_marks.specs.Globals.{Table, greatest}
@@ -29,7 +29,7 @@ use Rattle.swc_base_rename_units.specs.Eval.{HasEval}
 use Rattle.swc_ecma_transforms_base_laws.specs.Sources.{IsSource, ResolvedSourcesAreReady}
 use Rattle.swc_ecma_transforms_base_laws.specs.Headline.{ChainingKeepsForms, ChainingKeepsSources, KeepsItsForm, KeepsItsSource}
 use Rattle.swc_ecma_transforms_base_laws.specs.Renamers.{LawfulRenamersKeepFormsOfSources, LawfulRenamersKeepSources, Suits}
-use Rattle.swc_ecma_transforms_base_apart_laws.specs.Lower.swc_ecma_transforms_base_settled_laws.specs.Settled.{ChainChangesNothing, IsAnswer}
+use Rattle.swc_ecma_transforms_base_laws.specs.Settled.{ChainChangesNothing, IsAnswer}
 use Rattle.swc_ecma_transforms_base_chains.specs.Chained.{ChainsBy, HasFreshMarks, IsChainRefusalBy, IsMarked, IsOnceRenamed, marks_for}
 use Rattle.swc_ecma_transforms_base_chains.specs.Finished.{Finishes, FinishesBy, IsFinishRefusal, IsFinishRefusalBy}
 use Rattle.swc_ecma_transforms_base_chains.specs.Lent.{MovesFor, MovesPartly}

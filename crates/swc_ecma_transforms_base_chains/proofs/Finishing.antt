@@ -27,12 +27,12 @@ use Rattle.swc_base_rename.specs.Renamers.{RefusesSettling, SettlesNames, renami
 use Rattle.swc_ecma_transforms_base_laws.specs.Finished.{FinishingMeetsNoTarget}
 use Rattle.swc_ecma_transforms_base_laws.specs.Headline.{FinishingKeepsForms, FinishingKeepsPromises, IsOfMemoryOrCounters, KeepsItsForm, KeepsItsPromises}
 use Rattle.swc_ecma_transforms_base_laws.specs.Renamers.{LawfulRenamersKeepForms, LawfulRenamersKeepPromises, Suits}
-use Rattle.swc_ecma_transforms_base_apart_laws.specs.Lower.swc_ecma_transforms_base_settled_laws.specs.Settled.{IsAnswer}
+use Rattle.swc_ecma_transforms_base_laws.specs.Settled.{IsAnswer}
 use Rattle.swc_base_rename_analysis.specs.Named.{Renaming}
-use Rattle.swc_base_rename_hygiene_laws.specs.Laws.{IsFinishable}
-use Rattle.swc_base_rename_hygiene_laws.specs.Renamers.{IsLawful, IsRenamedAndCleared, KeepsTopApart}
-use Rattle.swc_base_rename_ids_laws.proofs.Programs.{by_goal, module_place}
-use Rattle.swc_tree_sites_scripts.specs.Laws.{script_place}
+use Rattle.swc_base_renaming_laws.specs.Hygiene.{IsFinishable}
+use Rattle.swc_base_renaming_laws.specs.Renamers.{IsLawful, IsRenamedAndCleared, KeepsTopApart}
+use Rattle.swc_base_renaming_laws.proofs.IdsPrograms.{by_goal, module_place}
+use Rattle.swc_tree_sites_kept.specs.Scripts.{script_place}
 use Rattle.swc_ecma_transforms_base_chains.specs.Finished.{Finishes, FinishesBy, IsFinishRefusal, IsFinishRefusalBy}
 use Rattle.swc_ecma_transforms_base_chains.specs.Lent.{MovesPartly}
 use Rattle.swc_ecma_transforms_base_chains.proofs.WritableTypes.{is_untyped, writable_has_no_types}

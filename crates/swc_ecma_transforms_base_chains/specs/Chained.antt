@@ -12,7 +12,7 @@ use Rattle.swc_base_resolver_program.specs.Marked.{MarksOk, OnlyContexts}
 use Rattle.swc_base_rename_substitution.specs.declared.config.Config.{Config}
 use Rattle.swc_base_rename_analysis.specs.Named.{Renaming}
 use Rattle.swc_base_rename_program.specs.Renamed.{IsRenameRefusal, hygiene_renaming}
-use Rattle.swc_base_rename_hygiene_laws.specs.Renamers.{IsRenamedAndCleared}
+use Rattle.swc_base_renaming_laws.specs.Renamers.{IsRenamedAndCleared}
 use Rattle.swc_ecma_transforms_base_laws.specs.Renamers.{Suits}
 use Rattle.swc_ecma_transforms_base_chains.specs.Finished.{FinishesBy, IsUnassignableBy}
 

@@ -10,7 +10,7 @@ use Rattle.swc_base_fixer_program.specs.Answers.{answer_to}
 use Rattle.swc_base_rename_analysis.specs.Named.{Renaming}
 use Rattle.swc_base_rename_substitution.specs.declared.config.Config.{Config}
 use Rattle.swc_base_rename_program.specs.Renamed.{IsRenameRefusal, hygiene_renaming}
-use Rattle.swc_base_rename_hygiene_laws.specs.Renamers.{IsRenamedAndCleared}
+use Rattle.swc_base_renaming_laws.specs.Renamers.{IsRenamedAndCleared}
 
 -- no types stood in the program; it got its names by the renamer and lost its contexts, each parenthesised target of it took a value
 -- then, and it got its due pairs

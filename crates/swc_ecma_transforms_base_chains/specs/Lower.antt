@@ -1,3 +1,2 @@
 -- Libraries below that crates above name through this one.
-pub use Rattle.swc_ecma_transforms_base_apart_laws.specs.Lower.swc_ecma_transforms_base_settled_laws
 pub use Rattle.swc_ecma_transforms_base_laws

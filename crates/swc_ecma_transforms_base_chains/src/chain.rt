@@ -9,7 +9,7 @@ ghost use Rattle.swc_base_rename_units.specs.Eval.{HasEval};
 ghost use Rattle.swc_ecma_transforms_base_laws.specs.Sources.{IsSource};
 ghost use Rattle.swc_ecma_transforms_base_chains.specs.Chained.{Chains, HasFreshMarks, IsChainRefusal, IsOnceHygienic};
 ghost use Rattle.swc_ecma_transforms_base_laws.specs.Headline.{KeepsItsForm, KeepsItsSource};
-ghost use Rattle.swc_ecma_transforms_base_apart_laws.specs.Lower.swc_ecma_transforms_base_settled_laws.specs.Settled.{IsAnswer};
+ghost use Rattle.swc_ecma_transforms_base_laws.specs.Settled.{IsAnswer};
 ghost use Rattle.swc_ecma_transforms_base_chains.specs.Lent.{Became, MovesFor, MovesPartly};
 
 use crate::finish::{finish_module_with, finish_script_with};
@@ -17,9 +17,9 @@ use std::alloc::Global;
 use std::mem;
 use swc_base_rename::Config;
 use swc_base_resolver::resolver;
-use swc_ecma_transforms_base_apart_laws::a_chain_changes_nothing;
 use swc_ecma_transforms_base_laws::{
-    chaining_keeps_forms, chaining_keeps_sources, resolved_sources_are_ready,
+    a_chain_changes_nothing, chaining_keeps_forms, chaining_keeps_sources,
+    resolved_sources_are_ready,
 };
 use swc_tree::{
     Comments, Globals, JsPass, Mark, Module, NoComments, PassError, Script, empty_module,

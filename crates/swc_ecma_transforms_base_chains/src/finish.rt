@@ -7,10 +7,10 @@ ghost use Rattle.swc_tree_scoping.specs.WellScoped.{WellScoped};
 ghost use Rattle.swc_tree_renaming.specs.Apart.{IsPlainScript};
 ghost use Rattle.swc_base_rename_units.specs.Eval.{HasEval};
 ghost use Rattle.swc_base_rename_program.specs.Renamed.{IsHygienic};
-ghost use Rattle.swc_base_rename_hygiene_laws.specs.Laws.{IsFinishable};
+ghost use Rattle.swc_base_renaming_laws.specs.Hygiene.{IsFinishable};
 ghost use Rattle.swc_ecma_transforms_base_chains.specs.Finished.{Finishes, IsFinishRefusal};
 ghost use Rattle.swc_ecma_transforms_base_laws.specs.Headline.{IsOfMemoryOrCounters, KeepsItsForm, KeepsItsPromises};
-ghost use Rattle.swc_ecma_transforms_base_apart_laws.specs.Lower.swc_ecma_transforms_base_settled_laws.specs.Settled.{IsAnswer};
+ghost use Rattle.swc_ecma_transforms_base_laws.specs.Settled.{IsAnswer};
 ghost use Rattle.swc_ecma_transforms_base_chains.specs.Lent.{Became, MovesFor, MovesPartly};
 
 use crate::fixed::{fix_module, fix_script};

@@ -1,15 +1,15 @@
 -- What is promised of a program that is renamed and finished, and of a source that is chained, by the laws of each.
 use Rattle.std.proofs.Common.{◌∙◌}
 use Rattle.swc_base_rename_program.specs.Renamed.{hygiene_renaming}
-use Rattle.swc_base_rename_errors_laws.specs.Laws.{RenamedAnswerHasNoEarlyErrorOfNames}
-use Rattle.swc_base_rename_hygiene_laws.specs.Laws.{HygieneIsLawful}
-use Rattle.swc_base_rename_hygiene_laws.specs.Renamers.{SparesGlobalValues}
-use Rattle.swc_base_alpha_chained_laws.specs.Laws.{ComesFrom}
-use Rattle.swc_base_alpha_chained_laws.proofs.Caught.{fair_catches_none}
+use Rattle.swc_base_renaming_laws.specs.Errors.{RenamedAnswerHasNoEarlyErrorOfNames}
+use Rattle.swc_base_renaming_laws.specs.Hygiene.{HygieneIsLawful}
+use Rattle.swc_base_renaming_laws.specs.Renamers.{SparesGlobalValues}
+use Rattle.swc_ecma_transforms_base_laws.specs.SourceNames.{ComesFrom}
+use Rattle.swc_ecma_transforms_base_laws.proofs.Caught.{fair_catches_none}
 use Rattle.swc_ecma_transforms_base_laws.specs.Headline.{ChainingKeepsForms, ChainingKeepsSources, FinishingKeepsForms, FinishingKeepsPromises}
 use Rattle.swc_ecma_transforms_base_laws.specs.Renamers.{FinishingRenamedKeepsIds, FinishingRenamedKeepsMeanings, FinishingRenamedKeepsPrograms, FinishingRenamedKeepsSources, FinishingRenamedKeepsSpans, FinishingRenamedMeetsNoTarget, LawfulRenamersKeepForms, LawfulRenamersKeepFormsOfSources, LawfulRenamersKeepPromises, LawfulRenamersKeepSources, RenamersThatPreserveNoneKeepPromises}
 use Rattle.swc_ecma_transforms_base_laws.specs.Sources.{ResolvedSourcesAreReady, ResolvedSourcesHaveTheirForm}
-use Rattle.swc_ecma_transforms_base_laws.proofs.Kept.{hygiene_suits, none_suits}
+use Rattle.swc_ecma_transforms_base_laws.proofs.FinishingKept.{hygiene_suits, none_suits}
 
 pub renamers_keep_forms : FinishingRenamedKeepsPrograms → FinishingRenamedKeepsSpans → LawfulRenamersKeepForms
 renamers_keep_forms programs spans r table config place goal before middle lawful top is f b h =

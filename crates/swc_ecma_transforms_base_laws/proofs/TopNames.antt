@@ -15,7 +15,7 @@ use Rattle.swc_tree_renaming.specs.Apart.{DeclaredIn, OccursIn}
 use Rattle.swc_tree_renaming.proofs.Whole.{id_name_same}
 use Rattle.swc_base_rename_analysis.specs.Named.{Renaming}
 use Rattle.swc_base_rename_scoped_laws.specs.Laws.{KeepsApart}
-use Rattle.swc_base_rename_errors_laws.specs.Lower.swc_base_rename_texts_laws.proofs.Kept.{top_apart}
+use Rattle.swc_base_renaming_laws.proofs.Kept.{top_apart}
 use Rattle.swc_base_resolver_laws.proofs.Declared.{bound_mark, declares_bound, stands_of}
 use Rattle.swc_base_resolver_laws.proofs.Lists.{found, found_none}
 use Rattle.swc_base_resolver_laws.proofs.Names.{Resolving, binding_context, contexts, in_program, marks, name_apart, name_is, name_of, no_sloppy, one_mark, reference_context, round_scope, stands_back, stands_forth, taken_bound, takers_scope, text_at}

@@ -17,9 +17,9 @@ use Rattle.swc_tree_grammar.specs.Writable.{Writable}
 use Rattle.swc_base_rename_substitution.specs.declared.config.Config.{Config}
 use Rattle.swc_base_rename_program.specs.Renamed.{IsHygienic}
 use Rattle.swc_base_rename_laws.specs.NewNames.{SameButForNames}
-use Rattle.swc_base_rename_hygiene_laws.specs.Laws.{IsFinishable}
+use Rattle.swc_base_renaming_laws.specs.Hygiene.{IsFinishable}
 use Rattle.swc_base_alpha_laws.specs.Alpha.{AlphaEquivalent}
-use Rattle.swc_base_alpha_chained_laws.specs.Laws.{ComesFrom}
+use Rattle.swc_ecma_transforms_base_laws.specs.SourceNames.{ComesFrom}
 
 -- the answer can be written down, the grammar derives it, and it has the normal form of the program but for the names that the
 -- program binds

@@ -1,3 +1,2 @@
 -- Libraries below that crates above name through this one.
-pub use Rattle.swc_base_rename_errors_laws
-pub use Rattle.swc_base_rename_hygiene_laws
+pub use Rattle.swc_base_renaming_laws

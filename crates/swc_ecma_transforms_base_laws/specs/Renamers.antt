@@ -15,11 +15,11 @@ use Rattle.swc_tree_grammar.specs.Targets.{all_bare}
 use Rattle.swc_base_rename_analysis.specs.Named.{Renaming}
 use Rattle.swc_base_rename_substitution.specs.declared.config.Config.{Config}
 use Rattle.swc_base_rename_laws.specs.NewNames.{SameButForNames}
-use Rattle.swc_base_rename_hygiene_laws.specs.Laws.{IsFinishable}
-use Rattle.swc_base_rename_hygiene_laws.specs.Renamers.{IsLawful, IsRenamedAndCleared, KeepsTopApart, SparesIfScript}
+use Rattle.swc_base_renaming_laws.specs.Hygiene.{IsFinishable}
+use Rattle.swc_base_renaming_laws.specs.Renamers.{IsLawful, IsRenamedAndCleared, KeepsTopApart, SparesIfScript}
 use Rattle.swc_base_rename_scoped_laws.specs.Laws.{KeepsApart, PreservesNone}
 use Rattle.swc_base_alpha_laws.specs.Alpha.{AlphaEquivalent}
-use Rattle.swc_base_alpha_chained_laws.specs.Laws.{ComesFrom}
+use Rattle.swc_ecma_transforms_base_laws.specs.SourceNames.{ComesFrom}
 use Rattle.swc_ecma_transforms_base_laws.specs.Finished.{KeepsProgram}
 use Rattle.swc_ecma_transforms_base_laws.specs.Headline.{KeepsItsForm, KeepsItsPromises, KeepsItsSource}
 use Rattle.swc_ecma_transforms_base_laws.specs.Sources.{IsSource}

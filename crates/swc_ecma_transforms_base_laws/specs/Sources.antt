@@ -13,7 +13,7 @@ use Rattle.swc_tree_grammar.specs.Writable.{Writable}
 use Rattle.swc_base_rename_substitution.specs.declared.config.Config.{Config}
 use Rattle.swc_base_rename_units.specs.Eval.{HasEval}
 use Rattle.swc_base_rename_laws.specs.NewNames.{SameButForNames}
-use Rattle.swc_base_rename_hygiene_laws.specs.Laws.{IsFinishable, IsPlain}
+use Rattle.swc_base_renaming_laws.specs.Hygiene.{IsFinishable, IsPlain}
 
 -- a program without contexts and early errors of names that can be written down, in which nothing reads names and where classes
 -- don't keep theirs

@@ -4,7 +4,7 @@ use Rattle.swc_tree_node.specs.declared.slot.Slot.{Slot}
 use Rattle.swc_tree_node.specs.Fits.{Fits}
 use Rattle.swc_tree_grammar.specs.Grammar.{FitsGrammar}
 use Rattle.text_grammar.specs.Shaped.{Shaped}
-use Rattle.text_spelling.specs.Spelled.{Spelled}
+use Rattle.text_checks.specs.Spelled.{Spelled}
 use Rattle.text_checks.specs.declared.check.Lack.{Lack}
 use Rattle.text_checks.specs.declared.check.Lack.TheVariants as lack
 

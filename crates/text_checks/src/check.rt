@@ -3,11 +3,10 @@ ghost use Rattle.std.specs.Prelude.{◌≡◌, ◌↔◌, Err, IfOk, IsTrue};
 ghost use Rattle.swc_tree_node.specs.Fits.{Fits};
 ghost use Rattle.text_checks.specs.Checked.{IsWellFormed, Lacks};
 
+use crate::{fits, is_spelled};
 use swc_tree_node::{Node, Slot};
 use text_derives::derives;
 use text_grammar::is_shaped;
-use text_spelling::is_spelled;
-use text_table::fits;
 
 /// What a tree lacks that no text has.
 #[derive(Clone, Copy, Debug, PartialEq, Eq)]

@@ -11,7 +11,7 @@ use Rattle.swc_tree_grammar.specs.Shapes.{items_of}
 use Rattle.swc_tree_grammar.specs.Levels.{is_absent}
 use Rattle.swc_tree_grammar.proofs.Induction.{by_children}
 use Rattle.text_words.specs.Words.{is_big_integer, is_hashbang, is_name, is_number}
-use Rattle.text_spelling.specs.Spelled.{are_bad_flags, fails, fails_there, has_amiss, has_no_value, is_amiss, is_amiss_export, is_amiss_specifier, is_bad_leaf, is_bad_raw, is_bad_regex, is_bad_string, is_bad_template, is_misspelled, is_reserved_name, is_valueless}
+use Rattle.text_checks.specs.Spelled.{are_bad_flags, fails, fails_there, has_amiss, has_no_value, is_amiss, is_amiss_export, is_amiss_specifier, is_bad_leaf, is_bad_raw, is_bad_regex, is_bad_string, is_bad_template, is_misspelled, is_reserved_name, is_valueless}
 use Rattle.text_words.specs.Words as words
 use Rattle.text_kept_laws.proofs.Cleared.{absent_same, any_same, items_same, look, text_absent, text_flag, text_list, text_name, text_span, text_text, text_tree, text_word}
 

@@ -1,1 +1,16 @@
-pub mod Laws
+pub mod Resolved
+pub mod Renames
+pub mod Spelling
+pub mod Namings
+pub mod Pairs
+pub mod Stripping
+pub mod Units
+pub mod Mangle
+pub mod Chain
+pub mod Unnamed
+pub mod Bound
+pub mod Paired
+pub mod Pieces
+pub mod Unpaired
+pub mod Written
+pub mod Tokens

@@ -5,7 +5,7 @@ ghost use Rattle.swc_tree_modules.specs.Nodes.{module_node, script_node};
 ghost use Rattle.swc_tree_scoping.specs.WellScoped.{IsClean};
 ghost use Rattle.text_checks.specs.Checked.{IsWellFormed};
 ghost use Rattle.text_parser.specs.declared.programs.Goal.TheVariants as goal;
-ghost use Rattle.text_pinned.specs.Pinned.{IsPinned};
+ghost use Rattle.text_checks.specs.Pinned.{IsPinned};
 ghost use Rattle.text_reader.specs.declared.fault.TextFault.TheVariants as fault;
 ghost use Rattle.text_source.specs.Texts.{IsTextOf, SpansAreOf, Tells, most_bytes, slot_of};
 ghost use Rattle.text_spans.specs.Leaves.{LeavesStand};

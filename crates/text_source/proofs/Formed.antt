@@ -7,10 +7,10 @@ use Rattle.swc_tree_node.specs.Fits.{Fits}
 use Rattle.swc_tree_walk.specs.Nodes.{HasNode}
 use Rattle.text_checks.specs.Checked.{IsWellFormed}
 use Rattle.text_grammar.specs.Shaped.{is_misshapen}
-use Rattle.text_rules.specs.Lower.text_pinned.specs.Pinned.{is_astray}
+use Rattle.text_checks.specs.Pinned.{is_astray}
 use Rattle.text_source.specs.Amiss.{is_amiss, is_marked}
 use Rattle.text_spans.specs.Leaves.{is_misplaced}
-use Rattle.text_spelling.specs.Spelled.{is_misspelled}
+use Rattle.text_checks.specs.Spelled.{is_misspelled}
 
 pub fits_of : (s : Slot) (t : Node) → IsWellFormed s t → Fits t s
 fits_of s t h = h.fits

@@ -3,9 +3,9 @@ use Rattle.std.specs.Prelude.{Bool, true, false, ◌||◌, List, [], ◌∷◌, 
 use Rattle.swc_tree_node.specs.declared.node.Node.{Node}
 use Rattle.swc_tree_node.specs.declared.node.Node.TheOpen.{Node-F}
 use Rattle.text_grammar.specs.Shaped.{is_misshapen}
-use Rattle.text_rules.specs.Lower.text_pinned.specs.Pinned.{is_astray}
+use Rattle.text_checks.specs.Pinned.{is_astray}
 use Rattle.text_spans.specs.Leaves.{is_misplaced}
-use Rattle.text_spelling.specs.Spelled.{is_misspelled}
+use Rattle.text_checks.specs.Spelled.{is_misspelled}
 
 abbrev pub has_marks : List ℕ → Bool
 has_marks [] = false

@@ -1,3 +1,2 @@
 -- Libraries below that crates above name through this one.
 pub use Rattle.text_checks
-pub use Rattle.text_rules.specs.Lower.text_pinned

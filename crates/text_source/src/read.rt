@@ -11,7 +11,7 @@ ghost use Rattle.text_follow.specs.Stands.{Stands};
 ghost use Rattle.text_pieces.specs.Frames.{first_span as span_of_first};
 ghost use Rattle.text_pieces.specs.Pieces.{framed_pieces, pieces as tokens_of};
 ghost use Rattle.text_pieces.specs.Tokens.{piece_view};
-ghost use Rattle.text_rules.specs.Lower.text_pinned.specs.Pinned.{IsPinned};
+ghost use Rattle.text_checks.specs.Pinned.{IsPinned};
 ghost use Rattle.text_reader.specs.declared.fault.TextFault.TheVariants as fault;
 ghost use Rattle.text_source.specs.Texts as spec;
 ghost use Rattle.text_source.specs.Texts.{IsTextOf, IsWhole, SpansAreOf, Tells, most_bytes};
@@ -21,11 +21,11 @@ use crate::sound::is_formed;
 use std::alloc::{AllocError, Global};
 use std::str;
 use swc_tree_node::{Class, Content, Node, Slot};
+use text_checks::fits;
 use text_follow::follows;
 use text_lexer::Comments;
 use text_parser::{Goal, TextFault, parse};
 use text_pieces::Piece;
-use text_table::fits;
 use text_walk::{first_span, pieces, tree_stands};
 
 /// As many bytes as a text may have: the places in a tree go up to 2 ^ 32 - 1, and begin with 1.

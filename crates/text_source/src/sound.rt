@@ -7,21 +7,18 @@ ghost use Rattle.swc_tree_scoping.specs.WellScoped.{IsClean};
 ghost use Rattle.swc_tree_walk.specs.Nodes.{HasNode};
 ghost use Rattle.text_checks.specs.Checked.{IsWellFormed};
 ghost use Rattle.text_grammar.specs.Shaped.{Shaped};
-ghost use Rattle.text_rules.specs.Lower.text_pinned.specs.Pinned.{IsPinned, is_astray};
+ghost use Rattle.text_checks.specs.Pinned.{IsPinned, is_astray};
 ghost use Rattle.text_source.specs.Amiss as spec;
 ghost use Rattle.text_spans.specs.Leaves.{LeavesStand};
-ghost use Rattle.text_spelling.specs.Spelled.{Spelled};
+ghost use Rattle.text_checks.specs.Spelled.{Spelled};
 
 use swc_tree_marks::Mark;
 use swc_tree_node::{Node, Slot};
 use swc_tree_walk::Finder;
+use text_checks::text_derives::derives;
+use text_checks::{Astray, Misspelled, fits_without, is_pinned_if_straight, keeps_all_rules};
 use text_grammar::Misshapen;
-use text_rules::keeps_all_rules;
-use text_rules::text_derives::derives;
-use text_rules::text_pinned::{Astray, is_pinned_if_straight};
 use text_spans::Misplaced;
-use text_spelling::Misspelled;
-use text_table::fits_without;
 
 fn has_marks(marks: &[Mark]) -> bool
     ensures { result ≡ spec.has_marks marks.now }

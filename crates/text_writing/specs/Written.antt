@@ -5,7 +5,7 @@ use Rattle.text_lexer.specs.declared.blank.Comments.{Comments}
 use Rattle.text_follow.specs.Follows.{Follows}
 use Rattle.text_pieces.specs.Pieces.{pieces}
 use Rattle.text_grammar.specs.Shaped.{Shaped, is_misshapen}
-use Rattle.text_spelling.specs.Spelled.{Spelled, is_misspelled}
+use Rattle.text_checks.specs.Spelled.{Spelled, is_misspelled}
 use Rattle.text_writing.specs.declared.write.WriteFault.{WriteFault}
 use Rattle.text_writing.specs.declared.write.WriteFault.TheVariants as fault
 use Rattle.text_writing.specs.Places.{PassesAt}

@@ -1,16 +1,16 @@
 //! The text of a tree that has one.
 ghost use Rattle.std.specs.Prelude.{IfErr, IfOk};
 ghost use Rattle.text_grammar.specs.Shaped.{Shaped};
-ghost use Rattle.text_spelling.specs.Spelled.{Spelled};
+ghost use Rattle.text_checks.specs.Spelled.{Spelled};
 ghost use Rattle.text_writing.specs.Written.{IsToBlame, IsWritten};
 
 use crate::place::place_of;
 use std::alloc::{AllocError, Global};
 use swc_tree_node::Node;
+use text_checks::Misspelled;
 use text_grammar::Misshapen;
 use text_lexer::Comments;
 use text_printer::{Layout, PrintFault, print_text};
-use text_spelling::Misspelled;
 
 /// Why a tree is not written.
 #[derive(Debug, Drop)]

@@ -2,7 +2,7 @@
 use crate::trees::lack::node;
 use std::alloc::Global;
 use swc_tree_node::{Class, Content, Slot};
-use text_pinned::is_pinned;
+use text_checks::is_pinned;
 
 fn class_of(words: &str) -> Option<Class> {
     match words {

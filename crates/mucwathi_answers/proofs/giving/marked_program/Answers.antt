@@ -1,5 +1,5 @@
 use Rattle.std.proofs.Common.{refl}
-use Rattle.mucwathi_marked.proofs.Ready.{given_ready}
+use Rattle.mucwathi_looks.proofs.Ready.{given_ready}
 use Rattle.mucwathi_answers.proofs.giving.marked_program.Goals as goal
 
 pub returns-clause-program : goal.returns-clause-program

@@ -1,8 +1,8 @@
 use Rattle.std.proofs.lemmas.Result.{IfOk-weaker}
 use Rattle.mucwathi_given.specs.Given.{IsReady}
-use Rattle.mucwathi_marked.specs.Given.{IsUnmarked}
-use Rattle.mucwathi_marked.specs.Refused.{IsUnread}
-use Rattle.mucwathi_marked.proofs.Ready.{unmarked_ready}
+use Rattle.mucwathi_looks.specs.Given.{IsUnmarked}
+use Rattle.mucwathi_looks.specs.Refused.{IsUnread}
+use Rattle.mucwathi_looks.proofs.Ready.{unmarked_ready}
 use Rattle.mucwathi_answers.proofs.Given.{other_end, well_end}
 use Rattle.mucwathi_answers.proofs.giving.plain_program.Goals as goal
 

@@ -1,7 +1,7 @@
 use Rattle.std.proofs.Common.{◌∙◌, ap, subst}
 use Rattle.std.specs.Prelude.{string_bytes}
 use Rattle.mucwathi_given.specs.Faults.{IsTreeFault}
-use Rattle.mucwathi_report.specs.Reports.{no_tree_text}
+use Rattle.mucwathi_looks.specs.Reports.{no_tree_text}
 use Rattle.mucwathi_answers.proofs.giving.tell_unread.Goals as goal
 
 pub returns-in_ok-told-in-NotATree : goal.returns-in_ok-told-in-NotATree

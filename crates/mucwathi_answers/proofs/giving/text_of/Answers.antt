@@ -1,6 +1,6 @@
 use Rattle.std.proofs.Common.{MatchResult, subst, sym}
-use Rattle.mucwathi_marked.specs.Answered.{IsRewrittenMarked}
-use Rattle.mucwathi_marked.specs.Refused.{IsUnrewrittenMarked}
+use Rattle.mucwathi_looks.specs.Answered.{IsRewrittenMarked}
+use Rattle.mucwathi_looks.specs.Refused.{IsUnrewrittenMarked}
 use Rattle.mucwathi_answers.specs.Given.{IsRemarked, IsUnremarked}
 use Rattle.mucwathi_answers.proofs.giving.text_of.Goals as goal
 

@@ -1,7 +1,7 @@
 use Rattle.std.proofs.Common.{MatchResult, subst}
 use Rattle.std.proofs.lemmas.Result.{MatchResult-weaker}
 use Rattle.mucwathi_commands.specs.Faults.{IsWriteFault}
-use Rattle.mucwathi_marked.specs.Answered.{IsPrinted}
+use Rattle.mucwathi_looks.specs.Answered.{IsPrinted}
 use Rattle.mucwathi_answers.proofs.Given.{no_text}
 use Rattle.mucwathi_answers.proofs.giving.text_of_tree.Goals as goal
 

@@ -1,5 +1,5 @@
 use Rattle.std.proofs.Common.{sym, subst}
-use Rattle.mucwathi_report.specs.Reports.{IsJudgeFaultReport}
+use Rattle.mucwathi_looks.specs.Reports.{IsJudgeFaultReport}
 use Rattle.mucwathi_answers.proofs.judging.unjudged.Goals as goal
 
 pub returns : goal.returns

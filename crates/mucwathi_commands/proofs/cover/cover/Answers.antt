@@ -6,7 +6,7 @@ use Rattle.mucwathi_order.specs.Lower.text_source.specs.Texts.{class_of}
 use Rattle.mucwathi_passes.specs.Passes.{config_of}
 use Rattle.mucwathi_commands.specs.Looks.{TellsCause}
 use Rattle.mucwathi_commands.proofs.Covered.{cause_told}
-use Rattle.mucwathi_faults.proofs.Programs.{is_program}
+use Rattle.mucwathi_order.proofs.Programs.{is_program}
 use Rattle.mucwathi_commands.proofs.cover.cover.Goals as goal
 
 pub returns-in-Ok : goal.returns-in-Ok

@@ -1,4 +1,4 @@
-use Rattle.mucwathi_faults.proofs.Programs.{opens}
+use Rattle.mucwathi_order.proofs.Programs.{opens}
 use Rattle.mucwathi_commands.proofs.Rewritten.{edited, refused}
 use Rattle.mucwathi_commands.proofs.rewrite.rewrite_from.Goals as goal
 

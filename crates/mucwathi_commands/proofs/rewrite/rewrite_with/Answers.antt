@@ -1,5 +1,5 @@
 use Rattle.text_printer.specs.declared.lay_out.Layout.TheVariants as layout
-use Rattle.mucwathi_faults.proofs.Programs.{opens}
+use Rattle.mucwathi_order.proofs.Programs.{opens}
 use Rattle.mucwathi_commands.proofs.Rewritten.{printed, refused}
 use Rattle.mucwathi_commands.proofs.rewrite.rewrite_with.Goals as goal
 

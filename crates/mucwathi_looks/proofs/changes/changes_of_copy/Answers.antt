@@ -1,7 +1,7 @@
 use Rattle.std.proofs.Common.{inl, refl, subst, sym}
 use Rattle.std.proofs.lemmas.Result.{MatchResult-weaker}
 use Rattle.swc_tree_node.specs.declared.node.Node.{Node}
-use Rattle.mucwathi_faults.proofs.Programs.{opens}
+use Rattle.mucwathi_order.proofs.Programs.{opens}
 use Rattle.mucwathi_commands.specs.Faults.{IsRunFault}
 use Rattle.mucwathi_commands.specs.Written.{IsReadAs}
 use Rattle.mucwathi_commands.proofs.Rewritten.{refused}

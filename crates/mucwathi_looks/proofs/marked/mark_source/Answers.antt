@@ -1,5 +1,5 @@
 use Rattle.std.proofs.Common.{inr}
-use Rattle.mucwathi_faults.proofs.Programs.{opens}
+use Rattle.mucwathi_order.proofs.Programs.{opens}
 use Rattle.mucwathi_looks.proofs.marked.mark_source.Goals as goal
 
 pub mark-requires : goal.mark-requires

@@ -1,5 +1,5 @@
 use Rattle.std.proofs.Common.{inl, inr, refl, sym, ◌∙◌}
-use Rattle.mucwathi_looks.proofs.Texts.{adds_seen, adds_text}
+use Rattle.mucwathi_looks.proofs.LookedTexts.{adds_seen, adds_text}
 use Rattle.mucwathi_looks.proofs.names.add.Goals as goal
 
 pub returns-then-contains-clause-names : goal.returns-then-contains-clause-names

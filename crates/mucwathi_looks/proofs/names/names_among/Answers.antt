@@ -1,6 +1,6 @@
 use Rattle.std.proofs.Common.{◌≤◌, [], length, arith, subst, sym}
 use Rattle.mucwathi_looks.proofs.Noted.{HasSeen, all_noted, nothing_seen, one_noted}
-use Rattle.mucwathi_looks.proofs.Texts.{no_text}
+use Rattle.mucwathi_looks.proofs.LookedTexts.{no_text}
 use Rattle.mucwathi_looks.proofs.names.names_among.Goals as goal
 
 pub loop-site-init : goal.loop-site-init

@@ -1,5 +1,5 @@
 use Rattle.std.proofs.Common.{inr}
-use Rattle.mucwathi_faults.proofs.Programs.{opens}
+use Rattle.mucwathi_order.proofs.Programs.{opens}
 use Rattle.mucwathi_looks.proofs.names.names_in.Goals as goal
 
 pub names_of-requires : goal.names_of-requires

@@ -1,5 +1,5 @@
 use Rattle.std.proofs.Common.{inr}
-use Rattle.mucwathi_faults.proofs.Programs.{opens}
+use Rattle.mucwathi_order.proofs.Programs.{opens}
 use Rattle.mucwathi_looks.proofs.trees.tree_in.Goals as goal
 
 pub envelope_of-requires : goal.envelope_of-requires

@@ -1,6 +1,6 @@
 use Rattle.std.proofs.Common.{ap, refl, rules, sym, ◌∙◌}
 use Rattle.swc_tree_modules.specs.Nodes.{module_node}
-use Rattle.swc_base_rename_ids_laws.proofs.Programs.{module_place}
+use Rattle.swc_base_renaming_laws.proofs.IdsPrograms.{module_place}
 use Rattle.swc_base_rename_program.specs.Renamed.{hygiene_renaming}
 use Rattle.swc_ecma_transforms_base_chains.proofs.Chaining.{answered, chained, fresh_first, marked, moved_once, moved_partly, no_target_first, no_target_later, refused_first, refused_later, source_kept, stays}
 use Rattle.swc_ecma_transforms_base_chains.proofs.Finishing.{module_plain, where_refused}

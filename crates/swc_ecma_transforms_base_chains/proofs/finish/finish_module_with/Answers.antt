@@ -1,7 +1,7 @@
 use Rattle.std.proofs.Common.{ap, refl, rules}
 use Rattle.swc_tree_modules.specs.Nodes.{module_node}
 use Rattle.swc_base_rename_program.specs.Renamed.{IsHygienic, hygiene_renaming}
-use Rattle.swc_base_rename_ids_laws.proofs.Programs.{module_place}
+use Rattle.swc_base_renaming_laws.proofs.IdsPrograms.{module_place}
 use Rattle.swc_ecma_transforms_base_chains.proofs.Finishing.{answered, made_hygienic, meets_none, module_plain, partly_by_fixer, promised, refused_by_fixer, refused_by_hygiene, typeless, unmoved_by_fixer}
 use Rattle.swc_ecma_transforms_base_chains.proofs.finish.finish_module_with.Goals as goal
 

@@ -1,7 +1,7 @@
 use Rattle.std.proofs.Common.{ap, refl, rules}
 use Rattle.swc_tree_modules.specs.Nodes.{script_node}
 use Rattle.swc_base_rename_program.specs.Renamed.{IsHygienic, hygiene_renaming}
-use Rattle.swc_tree_sites_scripts.specs.Laws.{script_place}
+use Rattle.swc_tree_sites_kept.specs.Scripts.{script_place}
 use Rattle.swc_ecma_transforms_base_chains.proofs.Finishing.{answered, formed, made_script_hygienic, meets_none, partly_by_fixer, promised, refused_by_fixer, refused_by_hygiene, typeless}
 use Rattle.swc_ecma_transforms_base_chains.proofs.finish.finish_script_with.Goals as goal
 

@@ -2,7 +2,7 @@ use Rattle.std.proofs.Common.{ap, refl, rules, sym, ◌∙◌}
 use Rattle.swc_tree_modules.specs.Nodes.{module_node}
 use Rattle.swc_tree_grammar.specs.Fixed.{recorded}
 use Rattle.swc_tree_grammar.specs.Pairs.{pairs}
-use Rattle.swc_base_rename_ids_laws.proofs.Programs.{module_place}
+use Rattle.swc_base_renaming_laws.proofs.IdsPrograms.{module_place}
 use Rattle.swc_base_rename.specs.Renamers.{renaming_in}
 use Rattle.swc_ecma_transforms_base_chains.proofs.Chaining.{chained, fresh_first, marked, moved_once, moved_partly, no_target_first, no_target_later_by, refused_first, refused_later, source_kept_by, typeless_yet}
 use Rattle.swc_ecma_transforms_base_chains.proofs.Finishing.{module_plain, where_refused}

@@ -2,7 +2,7 @@ use Rattle.std.proofs.Common.{ap, refl, rules, sym, ◌∙◌}
 use Rattle.swc_tree_modules.specs.Nodes.{script_node}
 use Rattle.swc_tree_grammar.specs.Fixed.{recorded}
 use Rattle.swc_tree_grammar.specs.Pairs.{pairs}
-use Rattle.swc_tree_sites_scripts.specs.Laws.{script_place}
+use Rattle.swc_tree_sites_kept.specs.Scripts.{script_place}
 use Rattle.swc_base_rename.specs.Renamers.{renaming_in}
 use Rattle.swc_ecma_transforms_base_chains.proofs.Chaining.{chained, fits_marked, form_kept_by, fresh_first, marked, moved_once, moved_partly, no_target_first, no_target_later_by, refused_first, refused_later, source_kept_by, typeless_yet}
 use Rattle.swc_ecma_transforms_base_chains.proofs.Finishing.{script_top_apart, where_refused}

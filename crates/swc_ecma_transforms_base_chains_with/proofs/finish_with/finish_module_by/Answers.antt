@@ -1,6 +1,6 @@
 use Rattle.std.proofs.Common.{refl, sym, ◌∙◌}
 use Rattle.swc_tree_modules.specs.Nodes.{module_node}
-use Rattle.swc_base_rename_ids_laws.proofs.Programs.{module_place}
+use Rattle.swc_base_renaming_laws.proofs.IdsPrograms.{module_place}
 use Rattle.swc_ecma_transforms_base_chains.proofs.Finishing.{no_types_left}
 use Rattle.swc_ecma_transforms_base_chains_with.proofs.finish_with.finish_module_by.Goals as goal
 

@@ -1,6 +1,6 @@
 use Rattle.std.proofs.Common.{refl, sym, ◌∙◌}
 use Rattle.swc_tree_modules.specs.Nodes.{script_node}
-use Rattle.swc_tree_sites_scripts.specs.Laws.{script_place}
+use Rattle.swc_tree_sites_kept.specs.Scripts.{script_place}
 use Rattle.swc_ecma_transforms_base_chains.proofs.Finishing.{no_types_left}
 use Rattle.swc_ecma_transforms_base_chains_with.proofs.finish_with.finish_script_by.Goals as goal
 

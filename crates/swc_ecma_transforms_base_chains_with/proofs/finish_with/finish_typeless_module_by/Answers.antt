@@ -1,8 +1,8 @@
 use Rattle.std.proofs.Common.{ap, refl, rules, subst}
 use Rattle.swc_tree_modules.specs.Nodes.{module_node}
-use Rattle.swc_base_rename_ids_laws.proofs.Programs.{module_place}
+use Rattle.swc_base_renaming_laws.proofs.IdsPrograms.{module_place}
 use Rattle.swc_base_rename.specs.Renamers.{renaming_in}
-use Rattle.swc_base_rename_hygiene_laws.specs.Renamers.{IsLawful, IsRenamedAndCleared}
+use Rattle.swc_base_renaming_laws.specs.Renamers.{IsLawful, IsRenamedAndCleared}
 use Rattle.swc_ecma_transforms_base_chains.proofs.Finishing.{meets_none_by, module_plain, partly_by_fixer, promised_by, refused_by_fixer, refused_by_renamer, renamer_blames_no_target, settled_as, unmoved_by_fixer}
 use Rattle.swc_ecma_transforms_base_chains_with.proofs.finish_with.finish_typeless_module_by.Goals as goal
 

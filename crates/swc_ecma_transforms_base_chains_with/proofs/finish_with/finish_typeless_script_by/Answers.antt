@@ -1,8 +1,8 @@
 use Rattle.std.proofs.Common.{ap, refl, rules, subst}
 use Rattle.swc_tree_modules.specs.Nodes.{script_node}
-use Rattle.swc_tree_sites_scripts.specs.Laws.{script_place}
+use Rattle.swc_tree_sites_kept.specs.Scripts.{script_place}
 use Rattle.swc_base_rename.specs.Renamers.{renaming_in}
-use Rattle.swc_base_rename_hygiene_laws.specs.Renamers.{IsLawful, IsRenamedAndCleared}
+use Rattle.swc_base_renaming_laws.specs.Renamers.{IsLawful, IsRenamedAndCleared}
 use Rattle.swc_ecma_transforms_base_chains.proofs.Finishing.{formed_by, meets_none_by, partly_by_fixer, promised_by, refused_by_fixer, refused_by_renamer, renamer_blames_no_target, script_top_apart, settled_as, unmoved_by_fixer}
 use Rattle.swc_ecma_transforms_base_chains_with.proofs.finish_with.finish_typeless_script_by.Goals as goal
 

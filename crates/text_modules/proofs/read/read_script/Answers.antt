@@ -1,7 +1,7 @@
 use Rattle.std.proofs.Common.{subst, sym}
 use Rattle.text_parser.specs.declared.programs.Goal.TheVariants as variant
 use Rattle.text_checks.specs.Checked.{IsWellFormed}
-use Rattle.text_pinned.specs.Pinned.{IsPinned}
+use Rattle.text_checks.specs.Pinned.{IsPinned}
 use Rattle.text_source.specs.Texts.{IsTextOf, SpansAreOf, slot_of}
 use Rattle.text_spans.specs.Leaves.{LeavesStand}
 use Rattle.text_modules.proofs.read.read_script.Goals as goal

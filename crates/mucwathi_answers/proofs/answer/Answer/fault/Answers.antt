@@ -1,5 +1,5 @@
 use Rattle.std.proofs.Common.{sym, subst}
-use Rattle.mucwathi_report.specs.Reports.{IsFaultReport}
+use Rattle.mucwathi_looks.specs.Reports.{IsFaultReport}
 use Rattle.mucwathi_answers.proofs.answer.Answer.fault.Goals as goal
 
 pub returns : goal.returns

@@ -1,5 +1,5 @@
 use Rattle.std.proofs.Common.{◌∙◌, ap}
-use Rattle.swc_base_rename_short_texts.specs.ShortTexts.{short_text}
+use Rattle.swc_base_rename_by_use.specs.ShortTexts.{short_text}
 use Rattle.swc_base_rename_by_use.specs.ByUse.{moved}
 use Rattle.swc_base_rename_by_use.proofs.by_use.TextsByUseNewTexts.new_text.Goals as goal
 

@@ -1,5 +1,0 @@
-mod Beside
-mod Joined
-mod Naming
-mod Spotting
-mod Telling

@@ -1,2 +1,0 @@
-pub mod Map
-pub mod Spots

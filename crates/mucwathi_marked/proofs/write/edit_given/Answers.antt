@@ -1,6 +1,0 @@
-use Rattle.std.proofs.lemmas.Result.{MatchResult-weaker}
-use Rattle.mucwathi_marked.proofs.write.edit_given.Goals as goal
-
-pub returns : goal.returns
-returns c =
-    MatchResult-weaker c.with_marks.result c.with_marks.ensures (λ out h. record { plain = c.in_ok-plain.plain.items; kept = c.in_ok-plain.ensures.kept; marked = h }) (λ f h. h)

@@ -1,4 +1,0 @@
-pub mod Answered
-pub mod Given
-pub mod Refused
-pub mod Lower

@@ -1,2 +1,0 @@
-mod Blanks
-mod Told

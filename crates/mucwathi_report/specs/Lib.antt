@@ -1,3 +1,0 @@
-pub mod Excerpts
-pub mod Reports
-pub mod Status

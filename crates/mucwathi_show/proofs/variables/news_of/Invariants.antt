@@ -1,6 +1,0 @@
-use Rattle.std.proofs.Common.{take}
-use Rattle.mucwathi_show.specs.Numbered.{HasNews}
-use Rattle.mucwathi_show.proofs.variables.news_of.Given as goal
-
-abbrev pub invariant-loop-change : goal.invariant-loop-change
-invariant-loop-change l = HasNews (take l.change-index l.changes) l.news

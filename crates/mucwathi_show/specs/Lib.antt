@@ -1,4 +1,0 @@
-pub mod Coloured
-pub mod Numbered
-pub mod Shown
-pub mod Unshown

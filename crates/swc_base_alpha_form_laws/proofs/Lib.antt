@@ -1,3 +1,0 @@
-mod Same
-mod Declared
-mod Forms

@@ -1,6 +1,0 @@
-use Rattle.swc_base_alpha_form_laws.proofs.Forms.{alpha_keeps_forms}
-use Rattle.swc_base_alpha_form_laws.proofs.alpha_keeps_forms.Goals as goal
-
--- src/lib.rt
-pub returns : goal.returns
-returns c = alpha_keeps_forms (record { texts = c.texts_are_as_writable.ensures; modules = c.writable_normal_form_is_left.ensures; scripts = c.plain_scripts_are_left.ensures; targets = c.targets_stand_bare.ensures; tame = c.writable_modules_are_tame.ensures; written = c.written_out_is_left.ensures; stripped_takes = c.stripped_takes_the_same.ensures }) c.normal_form_is_clean.ensures

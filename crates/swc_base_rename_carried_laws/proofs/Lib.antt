@@ -1,2 +1,0 @@
-mod Around
-mod Carried

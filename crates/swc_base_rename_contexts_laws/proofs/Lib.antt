@@ -1,4 +1,0 @@
-mod Relabelled
-mod Written
-mod Contexts
-mod Labels

@@ -1,3 +1,0 @@
-pub mod Programs
-pub mod Listing
-pub mod Errors

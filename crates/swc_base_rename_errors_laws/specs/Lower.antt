@@ -1,3 +1,0 @@
--- Libraries below that crates above name through this one.
-pub use Rattle.swc_base_rename_texts_laws
-pub use Rattle.swc_tree_sites_scripts

@@ -1,3 +1,0 @@
-pub mod Renamers
-pub mod Laws
-pub mod Lower

@@ -1,5 +1,0 @@
-pub mod Spans
-pub mod Programs
-pub mod Globals
-pub mod Exported
-mod Join

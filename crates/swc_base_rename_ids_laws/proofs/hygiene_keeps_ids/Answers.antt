@@ -1,6 +1,0 @@
-use Rattle.swc_base_rename_ids_laws.proofs.hygiene_keeps_ids.Goals as goal
-use Rattle.swc_base_rename_ids_laws.proofs.Join.{hygiene_keeps_ids}
-
--- src/lib.rt
-pub returns : goal.returns
-returns c = hygiene_keeps_ids c.renamers_keep_ids.ensures c.hygiene_spares_global_values.ensures

@@ -1,6 +1,0 @@
-use Rattle.swc_base_rename_ids_laws.proofs.renamers_keep_meanings.Goals as goal
-use Rattle.swc_base_rename_ids_laws.proofs.Join.{renamers_keep_meanings}
-
--- src/lib.rt
-pub returns : goal.returns
-returns c = renamers_keep_meanings c.names_are_apart.ensures c.chained_is_flat.ensures c.renaming_gives_normal_form_new_texts.ensures c.writable_normal_form_is_left.ensures c.plain_scripts_are_left.ensures c.ids_are_left.ensures c.left_mean_their_ids.ensures

@@ -1,6 +1,0 @@
-use Rattle.swc_base_rename_labels_laws.proofs.labels_are_ids.Goals as goal
-use Rattle.swc_base_rename_labels_laws.proofs.Meant.{labels_are_ids}
-
--- src/lib.rt
-pub returns : goal.returns
-returns c = labels_are_ids c.fixed_names_are_left.ensures c.fixed_fits_table.ensures c.targets_stand_bare.ensures c.fixed_scripts_lose_no_name.ensures c.texts_are_as_writable.ensures c.labels_are_meant.ensures c.resolved_names_mean_their_ids.ensures

@@ -1,6 +1,0 @@
-pub mod Mapped
-pub mod Agreed
-pub mod Looks
-pub mod Written
-pub mod Declared
-pub mod Names

@@ -1,7 +1,0 @@
-mod Calm
-mod Blocks
-mod Pairs
-mod NewNames
-mod Sequences
-mod Stripped
-mod Contexts

@@ -1,2 +1,0 @@
-pub mod ShortTexts
-pub mod ShortLaws

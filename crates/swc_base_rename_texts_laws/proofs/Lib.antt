@@ -1,6 +1,0 @@
-pub mod Decided
-pub mod Cleared
-pub mod NewTexts
-pub mod Spans
-pub mod Words
-pub mod Kept

@@ -1,6 +1,0 @@
-use Rattle.swc_base_rename_texts_laws.proofs.hygiene_gives_normal_form_new_texts.Goals as goal
-use Rattle.swc_base_rename_texts_laws.proofs.NewTexts.{hygiene_gives_normal_form_new_texts}
-
--- src/lib.rt
-pub returns : goal.returns
-returns c = hygiene_gives_normal_form_new_texts

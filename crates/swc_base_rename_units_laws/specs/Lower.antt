@@ -1,2 +1,0 @@
--- Libraries below that crates above name through this one.
-pub use Rattle.swc_base_rename_tries_laws

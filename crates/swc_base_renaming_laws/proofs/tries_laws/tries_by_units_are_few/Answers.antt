@@ -1,0 +1,6 @@
+use Rattle.swc_base_renaming_laws.proofs.tries_laws.tries_by_units_are_few.Goals as goal
+use Rattle.swc_base_renaming_laws.proofs.Few.{tries_by_units_are_few}
+
+-- src/tries_laws.rt
+pub returns : goal.returns
+returns c = tries_by_units_are_few

@@ -1,6 +1,0 @@
-use Rattle.swc_ecma_transforms_base_apart_laws.proofs.a_chain_changes_spans.Goals as goal
-use Rattle.swc_ecma_transforms_base_apart_laws.proofs.Apart.{a_chain_changes_spans}
-
--- src/lib.rt
-pub returns : goal.returns
-returns c = a_chain_changes_spans c.chain_changes_spans.ensures c.answers_are_apart.ensures

@@ -1,0 +1,6 @@
+use Rattle.swc_ecma_transforms_base_laws.proofs.apart_laws.a_chain_changes_spans.Goals as goal
+use Rattle.swc_ecma_transforms_base_laws.proofs.Apart.{a_chain_changes_spans}
+
+-- src/apart_laws.rt
+pub returns : goal.returns
+returns c = a_chain_changes_spans c.chain_changes_spans.ensures c.answers_are_apart.ensures

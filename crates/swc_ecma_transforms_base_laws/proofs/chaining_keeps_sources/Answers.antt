@@ -1,6 +1,0 @@
-use Rattle.swc_ecma_transforms_base_laws.proofs.chaining_keeps_sources.Goals as goal
-use Rattle.swc_ecma_transforms_base_laws.proofs.Promised.{keeps_sources}
-
--- src/lib.rt
-pub returns : goal.returns
-returns c = keeps_sources c.lawful_renamers_keep_sources.ensures c.hygiene_is_lawful.ensures c.hygiene_spares_global_values.ensures

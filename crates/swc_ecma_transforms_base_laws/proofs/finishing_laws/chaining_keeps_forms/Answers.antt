@@ -1,0 +1,6 @@
+use Rattle.swc_ecma_transforms_base_laws.proofs.finishing_laws.chaining_keeps_forms.Goals as goal
+use Rattle.swc_ecma_transforms_base_laws.proofs.Promised.{chains_keep_forms}
+
+-- src/finishing_laws.rt
+pub returns : goal.returns
+returns c = chains_keep_forms c.lawful_renamers_keep_forms_of_sources.ensures c.hygiene_is_lawful.ensures c.hygiene_spares_global_values.ensures

@@ -1,0 +1,6 @@
+use Rattle.swc_ecma_transforms_base_laws.proofs.finishing_laws.finishing_keeps_ids.Goals as goal
+use Rattle.swc_ecma_transforms_base_laws.proofs.FinishingKept.{keeps_ids}
+
+-- src/finishing_laws.rt
+pub returns : goal.returns
+returns c = keeps_ids c.finishing_renamed_keeps_ids.ensures c.hygiene_is_lawful.ensures c.hygiene_spares_global_values.ensures

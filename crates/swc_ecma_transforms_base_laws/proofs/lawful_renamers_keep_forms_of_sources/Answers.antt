@@ -1,6 +1,0 @@
-use Rattle.swc_ecma_transforms_base_laws.proofs.lawful_renamers_keep_forms_of_sources.Goals as goal
-use Rattle.swc_ecma_transforms_base_laws.proofs.Promised.{renamers_keep_forms_of_sources}
-
--- src/lib.rt
-pub returns : goal.returns
-returns c = renamers_keep_forms_of_sources c.resolved_sources_have_their_form.ensures c.lawful_renamers_keep_forms.ensures c.finishing_renamed_meets_no_target.ensures

@@ -1,6 +1,0 @@
-use Rattle.swc_ecma_transforms_base_laws.proofs.resolved_sources_are_ready.Goals as goal
-use Rattle.swc_ecma_transforms_base_laws.proofs.Sources.{sources_ready}
-
--- src/lib.rt
-pub returns : goal.returns
-returns c = sources_ready c.resolved_sources_have_their_form.ensures c.clean_programs_become_well_scoped.ensures c.resolved_names_mean_their_ids.ensures c.resolved_scripts_are_plain.ensures

@@ -1,4 +1,0 @@
-mod Leaves
-mod Unread
-mod Clean
-mod Chained

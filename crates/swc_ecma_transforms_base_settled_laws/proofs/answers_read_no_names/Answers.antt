@@ -1,6 +1,0 @@
-use Rattle.swc_ecma_transforms_base_settled_laws.proofs.answers_read_no_names.Goals as goal
-use Rattle.swc_ecma_transforms_base_settled_laws.proofs.Unread.{answers_read_no_names}
-
--- src/lib.rt
-pub returns : goal.returns
-returns c = answers_read_no_names c.hygiene_stays_fitting.ensures c.hygiene_stays_writable.ensures c.targets_stand_bare.ensures c.new_names_add_no_reader.ensures c.contexts_add_no_reader.ensures c.stripping_adds_no_reader.ensures c.blocks_add_no_reader.ensures c.due_pairs_add_no_reader.ensures

@@ -1,6 +1,0 @@
-use Rattle.swc_ecma_transforms_base_settled_laws.proofs.chain_changes_spans.Goals as goal
-use Rattle.swc_ecma_transforms_base_settled_laws.proofs.Chained.{chain_changes_spans}
-
--- src/lib.rt
-pub returns : goal.returns
-returns c = chain_changes_spans c.hygiene_stays_fitting.ensures c.answers_read_no_names.ensures c.answers_are_clean_programs.ensures c.hygiene_leaves_apart.ensures c.clean_programs_become_well_scoped.ensures c.answer_has_no_early_error_of_names.ensures c.readers_need_no_contexts.ensures c.second_run_changes_spans.ensures

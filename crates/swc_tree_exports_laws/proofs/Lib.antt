@@ -1,3 +1,0 @@
-pub mod Items
-pub mod Written
-pub mod Paths

@@ -1,0 +1,11 @@
+use Rattle.swc_tree_node.specs.declared.node.Node.{List as Many}
+use Rattle.text_derives.specs.Judged.{derived}
+use Rattle.text_derives.proofs.Judged.{seen_met}
+use Rattle.text_checks.proofs.Derived.{of_items}
+use Rattle.text_checks.proofs.grammar.rule_of_list.Goals as goal
+
+pub returns-then-look : goal.returns-then-look
+returns-then-look c met ts kept = of_items c.args.look ts met c.if-look.true kept
+
+pub returns-else-look : goal.returns-else-look
+returns-else-look c met ts kept = seen_met c.args.look (derived (Many ts)) met c.if-look.false

@@ -1,0 +1,11 @@
+use Rattle.swc_tree_node.specs.declared.node.Node.{Tree}
+use Rattle.swc_base_writable_rules.specs.Judged.{sounds}
+use Rattle.swc_base_writable_rules.proofs.Judged.{seen_met}
+use Rattle.text_checks.proofs.Sound.{of_fields}
+use Rattle.text_checks.proofs.writing.rule_of_tree.Goals as goal
+
+pub returns-then-look : goal.returns-then-look
+returns-then-look c met kept = of_fields c.args.look c.args.kind c.args.fields.now c.rule_of.result met c.if-look.true c.rule_of.ensures kept
+
+pub returns-else-look : goal.returns-else-look
+returns-else-look c met kept = seen_met c.args.look (sounds (Tree c.args.kind c.args.fields.now)) met c.if-look.false

@@ -1,0 +1,6 @@
+use Rattle.text_kept_laws.proofs.namings_laws.renaming_keeps_spelling.Goals as goal
+use Rattle.text_kept_laws.proofs.NamingsWhole.{renaming_spelling}
+
+-- src/namings_laws.rt
+pub returns : goal.returns
+returns c = renaming_spelling

@@ -1,4 +1,0 @@
-pub mod Characters
-pub mod Numbered
-pub mod Found
-pub mod Whole

@@ -1,9 +1,0 @@
-pub mod Seen
-pub mod Rows
-pub mod Then
-pub mod Plain
-pub mod Anew
-pub mod Numbers
-pub mod Bound
-pub mod Pairs
-pub mod Whole

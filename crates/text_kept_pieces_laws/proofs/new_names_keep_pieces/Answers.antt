@@ -1,7 +1,0 @@
-use Rattle.swc_tree_grammar.specs.Normal.{normal_form}
-use Rattle.text_kept_pieces_laws.proofs.new_names_keep_pieces.Goals as goal
-use Rattle.text_kept_pieces_laws.proofs.Whole.{one_form}
-
--- src/lib.rt
-pub returns : goal.returns
-returns c = λ m tree answer program writable given. one_form (normal_form tree) (normal_form answer) (c.normal_form_keeps_spans.ensures m tree answer program writable given)

@@ -1,4 +1,0 @@
-pub mod Unnamed
-pub mod Bound
-pub mod Paired
-pub mod Laws

@@ -1,6 +1,0 @@
-pub mod Calm
-pub mod Bound
-pub mod Rows
-pub mod Made
-pub mod Spelling
-pub mod Whole

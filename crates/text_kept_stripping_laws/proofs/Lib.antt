@@ -1,4 +1,0 @@
-pub mod Kept
-pub mod Sequences
-pub mod Stripping
-pub mod Whole

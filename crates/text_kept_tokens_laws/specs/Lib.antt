@@ -1,3 +1,0 @@
-pub mod Unpaired
-pub mod Written
-pub mod Laws

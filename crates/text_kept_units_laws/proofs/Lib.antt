@@ -1,4 +1,0 @@
-pub mod Paths
-pub mod Units
-pub mod Named
-pub mod Whole

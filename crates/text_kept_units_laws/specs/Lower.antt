@@ -1,3 +1,0 @@
--- Libraries below that crates above name through this one.
-pub use Rattle.text_kept_namings_laws
-pub use Rattle.text_kept_stripping_laws

@@ -1,3 +1,0 @@
-mod Fields
-pub mod Read
-mod Steps

@@ -1,4 +1,0 @@
-use Rattle.text_pinned.proofs.lax.is_sloppy_word.Goals as goal
-
-pub returns : goal.returns
-returns c = c.is_one_of.ensures

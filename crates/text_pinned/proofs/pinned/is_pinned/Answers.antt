@@ -1,8 +1,0 @@
-use Rattle.text_pinned.proofs.Steps.{bent, straight_by}
-use Rattle.text_pinned.proofs.pinned.is_pinned.Goals as goal
-
-pub returns-then-has_astray : goal.returns-then-has_astray
-returns-then-has_astray c s fits = bent c.args.tree.now c.has_astray.result c.has_astray.ensures c.if-has_astray.true
-
-pub returns : goal.returns
-returns c = c.is_pinned_if_straight.ensures (straight_by c.args.tree.now c.has_astray.result c.has_astray.ensures c.if-has_astray.false)

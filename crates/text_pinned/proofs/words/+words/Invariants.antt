@@ -1,6 +1,0 @@
-use Rattle.std.proofs.Common.{◌≡◌, true, take}
-use Rattle.text_pinned.specs.Words.{all_meet, ask_at}
-use Rattle.text_pinned.proofs.words.+words.Given as goal
-
-abbrev pub invariant-all_fit-loop-i : goal.invariant-all_fit-loop-i
-invariant-all_fit-loop-i l = all_meet (ask_at l.rule) (take l.i l.nodes) ≡ true

@@ -1,5 +1,0 @@
-mod Sound
-mod Derived
-mod Worded
-mod Node
-mod Bare
