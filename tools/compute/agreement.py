@@ -117,7 +117,7 @@ def main():
     options = parser.parse_args()
     lawbook.load(options.checkout)
     scoping.check_sources(options.other)
-    crates = [crate for crate in lawbook.CRATES if os.path.isdir(os.path.join(options.other, 'crates', crate))]
+    crates = [crate for crate in lawbook.CRATES if os.path.isdir(os.path.join(options.other, 'crates', crate.partition('.')[0]))]
     return 0 if compared(lawbook.D.all, antt2py.load(options.other, crates), options) else 1
 
 

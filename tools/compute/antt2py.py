@@ -40,16 +40,16 @@ NODE = 'Rattle.swc_tree_node.specs.declared.node.Node'
 
 
 class Translation:
-    """the modules of some crates, and what the names in them mean"""
+    """the modules of some crates, or one of a crate's, as CRATE.MODULE; and what the names in them mean"""
     def __init__(self, checkout, crates):
         self.checkout, self.modules, self.variants, self.not_translated, self.done = checkout, {}, {}, {}, []
-        for crate in crates:
+        for crate, _, only in (some.partition('.') for some in crates):
             root = os.path.join(checkout, 'crates', crate, 'specs')
             if not os.path.isdir(root):
                 raise FormError('crates/%s/specs: no such folder' % crate)
             for path in sorted(glob.glob(os.path.join(root, '**', '*.antt'), recursive=True)):
                 name = os.path.relpath(path, root)[:-5].replace(os.sep, '.')
-                if name != 'Lib':
+                if name != 'Lib' and only in ('', name):
                     self.modules[crate, name] = Module(crate, name, path, os.path.relpath(path, checkout))
         for module in self.modules.values():
             module.read()

@@ -8,8 +8,8 @@ import trees
 from antt_values import Rec
 
 CRATES = ('text_characters', 'text_strings', 'text_values', 'text_lexer', 'text_words', 'text_pieces', 'text_follow', 'text_grammar',
-          'text_spelling', 'text_reader', 'text_source', 'text_spans', 'text_derives', 'text_checks', 'text_pinned', 'text_comments', 'text_edit', 'text_places', 'text_kept_pieces_laws',
-          'text_kept_tokens_laws')
+          'text_reader', 'text_source', 'text_spans', 'text_derives', 'text_checks', 'text_comments', 'text_edit', 'text_places',
+          'text_kept_laws')
 # the relations that this was made from, by crate, by digests of their texts, as in scoping.py
 SOURCES = {
     'text_follow': {'Follows': 'd864ea92f49a', 'FollowsFrom': '3fa5f2a378d6', 'InParens': 'fde49c9e6b45', 'IsCooked': '2b1e5a733852',
@@ -20,17 +20,16 @@ SOURCES = {
     'text_source': {'IsPlace': '967ffe0168ea', 'IsTextOf': 'b2ba1f051c39 c4495303a130', 'IsWhole': '1aa3236c5db9', 'SpansAreOf': '5568a235d4a2',
         'Tells': '937587000cd3'},
     'text_grammar': {'Shaped': 'd37384ac3ed7'},
-    'text_spelling': {'Spelled': 'f542e98ccbfa'},
-    'text_pinned': {'IsPinned': 'ffb9c8602165', 'Worded': 'a3a249ad1c58'},
-    'text_checks': {'IsWellFormed': '778d07726601', 'Lacks': 'c3c984c47bb3'},
+    'text_checks': {'IsPinned': 'ffb9c8602165', 'IsWellFormed': '778d07726601', 'Lacks': 'c3c984c47bb3', 'Spelled': 'f542e98ccbfa',
+        'Worded': 'a3a249ad1c58'},
     'text_spans': {'LeavesStand': '14e46942b007'},
     'text_comments': {'HasComments': '44814e244567', 'HasCommentsFrom': '24975e54d4aa'},
     'text_edit': {'Advances': '6bb9298192a1', 'Allowed': '0ea24baf894e', 'EditedFrom': '9cde79506d00', 'Extends': 'ba6432d87edb',
         'IsEdited': 'ae7a02ad26a8', 'IsEditedBySteps': 'b6612200d938', 'IsRenamed': '36c0a5020792', 'Leads': '36216dcbff1b',
         'RenamedFrom': 'a02b67dbfe78', 'Stays': '1e9bd7154fb7'},
 }
-# these say how the code reads on, and nothing of texts that the others don't
-PASSED_OVER = ('Readers',)
+# these say how the code reads on or asks, and nothing of texts that the others don't
+PASSED_OVER = ('Readers', 'Asked')
 PLAIN = ('Module', 'Script')
 
 
@@ -200,7 +199,7 @@ def Shaped(D, t):
 
 
 def Spelled(D, t):
-    return not HasNode(D.text_spelling.Spelled.is_misspelled, t)
+    return not HasNode(D.text_checks.Spelled.is_misspelled, t)
 
 
 def Fits(D, t):
@@ -216,11 +215,11 @@ def IsWellFormed(D, t):
 
 
 def Worded(D, t):
-    return D.text_pinned.Words.fits(t, D.text_pinned.Words.neither)
+    return D.text_checks.Words.fits(t, D.text_checks.Words.neither)
 
 
 def IsPinned(D, t):
-    straight, lax = not HasNode(D.text_pinned.Pinned.is_astray, t), HasNode(D.text_pinned.Pinned.is_lax, t)
+    straight, lax = not HasNode(D.text_checks.Pinned.is_astray, t), HasNode(D.text_checks.Pinned.is_lax, t)
     return straight and Worded(D, t) and (lax or D.swc_tree_grammar.Writable.is_writable(t))
 
 

@@ -1,4 +1,4 @@
-"""kept_premises.py CHECKOUT [LAW..] [--trees N] [--seed S] [--seconds T]: premises of the laws of `text_kept_*_laws`, one left out at a time, with the
+"""kept_premises.py CHECKOUT [LAW..] [--trees N] [--seed S] [--seconds T]: premises of the laws of `text_kept_laws`, one left out at a time, with the
 smallest tree for which the law then fails.
 
 Each law is tried with all of its premises, and then, for each premise, on trees for which that one fails and the others hold. A tree that is no program

@@ -31,7 +31,7 @@ import trees
 import units
 from trees import at, paths
 
-CRATES = ['swc_tree_node', 'swc_tree_grammar', 'swc_tree_scoping', 'swc_base_rename_substitution', 'swc_base_rename_analysis', 'swc_base_rename_analysis_laws', 'swc_base_rename_naming', 'swc_base_rename_units', 'swc_tree_ext', 'swc_tree_marks', 'swc_tree_renaming', 'swc_tree_sites', 'swc_tree_sites_written', 'swc_tree_sites_scripts', 'swc_tree_exports_laws', 'swc_base_rename_settled_laws', 'swc_base_tables_injection', 'swc_base_tables_laws', 'swc_tree_walk', 'swc_base_rename_laws', 'swc_base_alpha_laws', 'swc_base_alpha', 'swc_base_covers', 'swc_base_plain_numbers', 'swc_base_plain_form', *following.CRATES, *commented.CRATES, *told.CRATES]
+CRATES = ['swc_tree_node', 'swc_tree_grammar', 'swc_tree_scoping', 'swc_base_rename_substitution', 'swc_base_rename_analysis', 'swc_base_rename_analysis_laws', 'swc_base_rename_naming', 'swc_base_rename_units', 'swc_tree_ext', 'swc_tree_marks', 'swc_tree_renaming', 'swc_tree_sites', 'swc_tree_sites_written', 'swc_tree_sites_kept', 'swc_base_renaming_laws.Meetings', 'swc_base_tables_injection', 'swc_base_tables_laws', 'swc_tree_walk', 'swc_base_rename_laws', 'swc_base_alpha_laws', 'swc_base_alpha', 'swc_base_covers', 'swc_base_plain_numbers', 'swc_base_plain_form', *following.CRATES, *commented.CRATES, *told.CRATES]
 
 
 class Definitions:
@@ -46,7 +46,7 @@ def load(checkout):
     """reads the definitions of a checkout, which all laws then use"""
     D.all = antt2py.load(checkout, CRATES)
     D.node, D.grammar, D.scoping = D.all.swc_tree_node, D.all.swc_tree_grammar, D.all.swc_tree_scoping
-    D.sites, D.written, D.exports = D.all.swc_tree_sites, D.all.swc_tree_sites_written, D.all.swc_tree_exports_laws
+    D.sites, D.written, D.exports = D.all.swc_tree_sites, D.all.swc_tree_sites_written, D.all.swc_tree_sites_kept
     D.injection = D.all.swc_base_tables_injection
     D.substitution, D.ext, D.marks = D.all.swc_base_rename_substitution, D.all.swc_tree_ext, D.all.swc_tree_marks
     random_trees.setup(D.all)

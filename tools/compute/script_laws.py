@@ -393,7 +393,7 @@ def normal_form_of_plain_script_is_plain(t):
 
 
 def is_settled(t):
-    return D.all.swc_tree_sites_scripts.Settled.is_settled(D.scoping.Places.program_place, t)
+    return D.all.swc_tree_sites_kept.Settled.is_settled(D.scoping.Places.program_place, t)
 
 
 @law(any_script)

@@ -69,7 +69,7 @@ def one_analysis_scope(t):
 
 
 def ids_met(t):
-    return D.all.swc_base_rename_settled_laws.Meetings.met(t)
+    return D.all.swc_base_renaming_laws.Meetings.met(t)
 
 
 def within_fault(a, b):

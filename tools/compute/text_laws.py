@@ -98,7 +98,7 @@ def is_tree(node, wanted):
 
 
 def pinned():
-    return D.all.text_pinned.Pinned
+    return D.all.text_checks.Pinned
 
 
 def is_head(node):

@@ -100,7 +100,7 @@ def are_named(ps, qs):
 # ---- laws
 def unnamed(t):
     """the pieces with one name for all, and without what is said of how what stands before ends"""
-    return list(D.all.text_kept_pieces_laws.Unnamed.unnamed(following.pieces(D.all, t)))
+    return list(D.all.text_kept_laws.Unnamed.unnamed(following.pieces(D.all, t)))
 
 
 @law(text_source)
@@ -116,7 +116,7 @@ def same_piece(names, p, q):
 
 def are_same_but_bound(names, ps, qs):
     """what `SameButBound` says"""
-    ps, qs = (D.all.text_kept_pieces_laws.Bound.unended(some) for some in (ps, qs))
+    ps, qs = (D.all.text_kept_laws.Bound.unended(some) for some in (ps, qs))
     return len(ps) == len(qs) and all(same_piece(names, p, q) for p, q in zip(ps, qs))
 
 
@@ -405,7 +405,7 @@ def AsWritten(ps, qs):
 
 
 def unpaired(t):
-    return D.all.text_kept_tokens_laws.Unpaired.unpaired(t)
+    return D.all.text_kept_laws.Unpaired.unpaired(t)
 
 
 def loses_pairs_alone(t):

@@ -10,19 +10,18 @@ import scoping
 from antt_values import Rec
 from following import IsPinned, IsTextOf, IsWellFormed, SpansAreOf
 
-CRATES = ('mucwathi_lists', 'mucwathi_looks', 'mucwathi_mappings', 'mucwathi_map', 'mucwathi_signs', 'mucwathi_marked')
+CRATES = ('mucwathi_lists', 'mucwathi_looks', 'mucwathi_mappings', 'mucwathi_signs')
 SOURCES = {
-    'mucwathi_looks': {'HasChanges': '79f95166a24b'},
+    'mucwathi_looks': {'HasChanges': '79f95166a24b', 'HasMarks': '7737b4f6f2b6', 'IsGiven': '591bce625a89', 'IsMap': '3b2ecb8ba51c',
+        'Rise': '5a3d812840d9', 'TellsNodes': '67d22f019ca8', 'TellsWritten': '2d47d7eac5bd'},
     'mucwathi_mappings': {'AreMappings': 'd977de3438e2', 'HasLast': '8219d77fd932', 'IsEntry': '21ec95e5a3ed',
         'IsMapOf': '5b718a79ac85', 'IsName': '852d64fead21', 'IsNumber': '40d289b7be41', 'IsNumberOf': '6a95f14d7bd2', 'TellsOf': '9003b6ff31f5'},
-    'mucwathi_map': {'IsMap': '3b2ecb8ba51c', 'TellsNodes': '67d22f019ca8', 'TellsWritten': '2d47d7eac5bd'},
     'mucwathi_signs': {'IsMarked': 'cf9e2dfe4299'},
-    'mucwathi_marked': {'Rise': '5a3d812840d9', 'HasMarks': '7737b4f6f2b6', 'IsGiven': '591bce625a89'},
     'mucwathi_commands': {'IsReadAs': '78fddd8f22fb'},
 }
 TYPES = ('AreMappings', 'IsMarked', 'IsNumber')
 # these say how the code keeps names and places, or belong to other calls
-PASSED_OVER = ('Looks', 'Marked', 'Names', 'Trees', 'Cut', 'Comments', 'Faults', 'Judged', 'Answered', 'Blanked', 'Refused', 'Signs', 'AddsMappings', 'AddsName', 'AddsNumber', 'AddsWay', 'AreMarked',
+PASSED_OVER = ('Coloured', 'Excerpts', 'Numbered', 'Reports', 'Shown', 'Unshown', 'Looks', 'Marked', 'Names', 'Trees', 'Cut', 'Comments', 'Faults', 'Judged', 'Answered', 'Blanked', 'Refused', 'Signs', 'AddsMappings', 'AddsName', 'AddsNumber', 'AddsWay', 'AreMarked',
                'Continues', 'GoesToLine', 'HasNames', 'HasNumber', 'IsKept', 'IsMark', 'IsNoneOrMap', 'IsOwn', 'IsPosition', 'IsPut', 'IsRefusedFor', 'IsRefusedText',
                'IsRewritten', 'IsSigned', 'IsUnmarked', 'IsWantOfMemory', 'IsWritten', 'Notes')
 
@@ -110,9 +109,9 @@ def IsMapOf(D, name, read, written, mapped, out):
     return len(entries) == len(places) and AreMappings(D, D.mucwathi_mappings.Mappings.start, entries, tuple(parts.group(4)))
 
 
-# ---- mucwathi_map
+# ---- maps of mucwathi_looks
 def TellsNodes(D, name, text, out, source, answer, written, found):
-    S = D.mucwathi_map.Spots
+    S = D.mucwathi_looks.Spots
     news, outs = S.spots(answer), S.spots(written)
     if S.names(news) != S.names(outs):
         return False
@@ -129,7 +128,7 @@ def IsMap(D, source, answer, written, name, text, out, found):
     return IsReadAs(D, source, text) and SpansAreOf(D, source, text) and TellsWritten(D, name, text, out, source, answer, written, found)
 
 
-# ---- mucwathi_signs, mucwathi_marked
+# ---- mucwathi_signs, marks of mucwathi_looks
 SIGN = re.compile(rb'#(0|[1-9][0-9]*)(\.(0|[1-9][0-9]*))*')
 
 
@@ -164,7 +163,7 @@ def HasMarks(marks, table):
 
 def IsGiven(D, source, text, plain, program, table):
     """of a source, and of some way to cut signs out, but for the settings that stand round the program"""
-    G = D.mucwathi_marked.Given
+    G = D.mucwathi_looks.Given
     if not (IsReadAs(D, source, plain) and SpansAreOf(D, source, plain)):
         return False
     ends = G.ends(source)

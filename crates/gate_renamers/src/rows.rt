@@ -7,8 +7,8 @@ use crate::{Letters, Numbered, Refusing};
 use std::alloc::Global;
 use std::fmt::Write;
 use swc_base_rename::{HygieneRenamer, Renamer};
-use swc_base_rename_by_use::Shortest;
 use swc_base_rename_naming::{HygieneTexts, Iter, ReverseMap, Taken, free_text};
+use swc_base_rename_shortest::Shortest;
 use swc_tree_items::Text;
 use swc_tree_marks::{Id, Mark, PassError, SyntaxContext};
 

@@ -7,7 +7,7 @@ use gate_rows::Given;
 use std::alloc::Global;
 use std::mem;
 use swc_base_rename::{Config, Renamer, renamer};
-use swc_base_rename_by_use::Shortest;
+use swc_base_rename_shortest::Shortest;
 use swc_tree::{Id, PassError};
 
 /// A renamer.

@@ -5,10 +5,10 @@ ghost use Rattle.swc_base_rename_by_use.specs.ByUse.{moved, own, text_by_use};
 ghost use Rattle.swc_base_rename_by_use.specs.ByUseLaws.{below, differ-by_use, identifier-by_use};
 ghost use Rattle.swc_base_rename_by_use.specs.ShortLaws.{none_is_withheld};
 
-use crate::{TextsByUse, texts_by_use};
 use std::alloc::Global;
 use std::collections::HashSet;
 use swc_base_rename::Renamer;
+use swc_base_rename_by_use::{TextsByUse, texts_by_use};
 use swc_base_rename_naming::NewTexts;
 use swc_tree_marks::{Id, JsWord, NoMemory, PassError};
 use swc_tree_modules::{Module, Script};

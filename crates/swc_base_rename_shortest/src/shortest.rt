@@ -4,10 +4,10 @@ ghost use Rattle.swc_base_rename_naming.specs.Ids.{HasJust};
 ghost use Rattle.swc_base_rename_by_use.specs.ShortTexts.{short_text as text_of};
 ghost use Rattle.swc_base_rename_by_use.specs.ShortLaws.{differ-short, identifier-short, none_is_withheld};
 
-use crate::ShortTexts;
 use std::alloc::Global;
 use std::collections::HashSet;
 use swc_base_rename::Renamer;
+use swc_base_rename_by_use::ShortTexts;
 use swc_base_rename_naming::NewTexts;
 use swc_tree_marks::{Id, JsWord, NoMemory, PassError};
 use swc_tree_modules::{Module, Script};
