@@ -1,1 +1,2 @@
+pub mod Mangled
 pub mod Lower

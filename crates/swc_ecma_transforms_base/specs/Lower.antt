@@ -1,2 +1,2 @@
 -- Libraries below that crates above name through this one.
-pub use Rattle.swc_ecma_transforms_base_chains_with.specs.Lower.swc_ecma_transforms_base_laws
+pub use Rattle.swc_ecma_transforms_base_chains.specs.Lower.swc_ecma_transforms_base_laws

@@ -1,6 +1,6 @@
 //! The calls that run passes one after another.
 //!
-//! `finish_module` runs hygiene and then the fixer, `chain_module` the resolver before them; `swc_ecma_transforms_base_chains_with` has
+//! `finish_module` runs hygiene and then the fixer, `chain_module` the resolver before them; `swc_ecma_transforms_base` has
 //! the same with a renamer of one's own in the place of hygiene. `specs/Finished.antt` and
 //! `specs/Chained.antt` say what they make of a program and when they refuse one, `specs/Headline.antt` of
 //! `swc_ecma_transforms_base_laws` what is promised of the answer.

@@ -8,7 +8,7 @@ use std::alloc::Global;
 use std::mem;
 use swc_base_rename::{Config, Renamer};
 use swc_base_resolver::marks_ok;
-use swc_ecma_transforms_base_chains_with::{
+use swc_ecma_transforms_base::{
     chain_with_module, chain_with_script, finish_with_module, finish_with_script,
 };
 use swc_tree::{Id, NoComments, PassError};

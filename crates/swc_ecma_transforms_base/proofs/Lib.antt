@@ -1,0 +1,3 @@
+mod Causes
+mod Made
+mod Sources

@@ -1,2 +1,0 @@
-mod Causes
-mod Made

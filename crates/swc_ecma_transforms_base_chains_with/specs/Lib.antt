@@ -1,2 +1,0 @@
-pub mod Mangled
-pub mod Lower
