@@ -2,7 +2,7 @@ use Rattle.std.proofs.Common.{◌∙◌, ap, subst, sym}
 use Rattle.swc_tree_modules.specs.Nodes.{script_node}
 use Rattle.swc_base_resolver_program.specs.Marked.{MarksOk}
 use Rattle.swc_ecma_transforms_base.specs.Lower.swc_ecma_transforms_base_laws.specs.Settled.{IsAnswer}
-use Rattle.example_twice.proofs.twice.finish_and_chain_script.Goals as goal
+use Rattle.example_passes.proofs.twice.finish_and_chain_script.Goals as goal
 
 pub returns : goal.returns
 returns c = record {

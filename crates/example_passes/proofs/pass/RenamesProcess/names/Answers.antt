@@ -1,7 +1,7 @@
 use Rattle.std.proofs.Common.{Some, cond, [], ◌∷◌, ◌++◌, ap, ◌∙◌}
 use Rattle.std.specs.Map.{lookup}
 use Rattle.swc_base_rename_substitution.specs.Names.{same_id}
-use Rattle.example_process.proofs.pass.RenamesProcess.names.Goals as goal
+use Rattle.example_passes.proofs.pass.RenamesProcess.names.Goals as goal
 
 pub returns : goal.returns
 returns c =

@@ -3,7 +3,7 @@ use Rattle.swc_base_rename_substitution.specs.Names.{if_other_text}
 use Rattle.swc_base_rename_substitution.specs.Substituted.{Substituted}
 use Rattle.swc_base_resolver.proofs.Extended.{with_fresh_marks-extended}
 use Rattle.swc_base_resolver.proofs.Opens.{opens}
-use Rattle.example_process.proofs.pass.RenamesProcessProgramPass.run.Goals as goal
+use Rattle.example_passes.proofs.pass.RenamesProcessProgramPass.run.Goals as goal
 
 pub returns-in_err-resolved-clause-marks : goal.returns-in_err-resolved-clause-marks
 returns-in_err-resolved-clause-marks c =

@@ -3,7 +3,7 @@ ghost use Rattle.std.specs.Prelude.{◌≡◌, false, IfOk, IfErr, Some, None, i
 ghost use Rattle.std.specs.HashMap.{get};
 ghost use Rattle.std.proofs.Common.{inl, refl};
 ghost use Rattle.swc_base_rename_substitution.specs.Names.{Id as Id', same_id};
-ghost use Rattle.example_process.specs.Process.{Declines, Renames, free_process};
+ghost use Rattle.example_passes.specs.Process.{Declines, Renames, free_process};
 
 use std::alloc::Global;
 use std::collections::HashMap;

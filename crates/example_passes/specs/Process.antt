@@ -8,7 +8,7 @@ use Rattle.swc_tree_spaces.specs.Spaces.{ResolvedBy}
 use Rattle.swc_base_resolver_program.specs.Marked.{MarksOk}
 use Rattle.swc_base_rename_substitution.specs.Names.{Id, if_other_text, same_id}
 use Rattle.swc_base_rename_substitution.specs.Substituted.{Substituted}
-use Rattle.example_process.specs.declared.pass.RenamesProcess.{RenamesProcess}
+use Rattle.example_passes.specs.declared.pass.RenamesProcess.{RenamesProcess}
 
 -- the id of a free `process`: that text with the mark of names that nothing declares
 abbrev pub free_process : ℕ → Id
