@@ -4,7 +4,7 @@ pub mod Signed
 mod Standing
 mod LookedTexts
 pub mod Unlooked
-pub mod Named
+pub mod NamedSigns
 pub mod Others
 pub mod Ready
 pub mod Rows

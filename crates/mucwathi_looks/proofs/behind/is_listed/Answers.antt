@@ -1,4 +1,4 @@
-use Rattle.mucwathi_looks.proofs.Named.{listed}
+use Rattle.mucwathi_looks.proofs.NamedSigns.{listed}
 use Rattle.mucwathi_looks.proofs.behind.is_listed.Goals as goal
 
 pub returns : goal.returns

@@ -1,6 +1,6 @@
 use Rattle.std.proofs.Common.{rules, sym, ◌∙◌}
 use Rattle.std.proofs.lemmas.List.Sorted.{answers_always}
-use Rattle.mucwathi_looks.proofs.Named.{found_at, found_nowhere}
+use Rattle.mucwathi_looks.proofs.NamedSigns.{found_at, found_nowhere}
 use Rattle.mucwathi_looks.proofs.contexts.marks_behind.Goals as goal
 
 pub returns-in-Ok : goal.returns-in-Ok
