@@ -5,8 +5,9 @@ use gate_rows::{Given, Notes, Program, Settings, room};
 use std::alloc::Global;
 use swc_ecma_transforms_base::hygiene::{Config, hygiene_with_config};
 use swc_ecma_transforms_base::resolver::marks_ok;
-use swc_ecma_transforms_base::{chain_module, chain_script, finish_module, finish_script};
-use swc_ecma_transforms_base::{mangle_module, mangle_script};
+use swc_ecma_transforms_base::{
+    chain_module, chain_script, finish_module, finish_script, mangle_module, mangle_script,
+};
 use swc_tree::PassError;
 use swc_tree_node::Class;
 
