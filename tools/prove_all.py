@@ -3,7 +3,7 @@
 
 For a kit whose `rt ci NAME` keeps what passed (rattle-kit-13f). Each crate of crates.txt, or those named and the ones that they use, is
 proved by `rt ci NAME` in a folder of its own with those below it, N at a time (4), those first behind which most is left by the seconds of
-docs/gate_costs.txt. While as many are ready each has one job (RT_JOBS), which takes a fifth less of a processor than four; a crate's edits
+docs/gate_costs.txt. While as many are ready each has one job (RT_JOBS), which takes a third less of a processor than four; a crate's edits
 are tried once it is proved. A crate is copied as it begins: a change of one that has not begun costs nothing more. What was passed before
 takes a look, so a run that was ended goes on where it stood.
 
