@@ -1,5 +1,5 @@
 #!/usr/bin/env python3
-"""crate_costs.py [--jobs N] [--keep FOLDER] [--proofs] [CRATE..]: what each crate costs the gate, as docs/gate_costs.txt has it.
+"""crate_costs.py [--jobs N] [--keep FOLDER] [--proofs] [CRATE..]: what each crate costs, where a kit keeps nothing of what passed; else see prove_all.py.
 crate_costs.py --log LOG: what each check of a gate's log loaded, and from which libraries.
 
 It proves each crate of crates.txt, or those named and the ones that they use, lowest first and N at a time (4), in a folder of its own
@@ -92,6 +92,16 @@ def sum_of(crate):
             for name in sorted(files):
                 found.update(os.path.relpath(os.path.join(at, name), ROOT).encode() + text_of(at, name))
     return found.hexdigest()
+
+
+def print_rows(rows):
+    """prints the seconds of proofs and of edits, each behind its crate, the dearest first, in the form of docs/gate_costs.txt"""
+    told = [(group if isinstance(group, tuple) else (group,)) for group in GROUPS]
+    for name, those in [('all', rows), *((', '.join(f'{begun}*' for begun in group), [row for row in rows if row[2].startswith(group)]) for group in told)]:
+        print(f'{name}: {sum(row[0] for row in those) / 60:.0f} minutes, edits {sum(row[1] for row in those) / 60:.0f}')
+    print()
+    for proofs, edits, crate in sorted(rows, key=lambda row: -row[0] - row[1]):
+        print(f'{crate} {proofs:.0f}' + (f' + {edits:.0f}' if edits else ''))
 
 
 class Costs:
@@ -201,12 +211,7 @@ class Costs:
         for crate in wanted:
             seconds = self.spent.get(crate, {}).get('seconds', {})
             rows.append((sum(spent for what, spent in seconds.items() if what != 'edits'), seconds.get('edits', 0), crate))
-        told = [(group if isinstance(group, tuple) else (group,)) for group in GROUPS]
-        for name, those in [('all', rows), *((', '.join(f'{begun}*' for begun in group), [row for row in rows if row[2].startswith(group)]) for group in told)]:
-            print(f'{name}: {sum(row[0] for row in those) / 60:.0f} minutes, edits {sum(row[1] for row in those) / 60:.0f}')
-        print()
-        for proofs, edits, crate in sorted(rows, key=lambda row: -row[0] - row[1]):
-            print(f'{crate} {proofs:.0f}' + (f' + {edits:.0f}' if edits else ''))
+        print_rows(rows)
 
 
 def loaded(log):

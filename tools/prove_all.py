@@ -17,7 +17,7 @@ import subprocess
 import sys
 import tempfile
 
-from crate_costs import GROUPS, ROOT, below, crates, edits_of, folder_of
+from crate_costs import ROOT, below, crates, edits_of, folder_of, print_rows
 
 
 def told_seconds():
@@ -97,17 +97,6 @@ class Run:
             self.left += [(step[0], True)] * bool(edits_of(step[0]))
         return status == 0
 
-    def print(self):
-        """prints what crates took, the dearest first"""
-        rows = [(self.seconds.get((crate, False), 0), self.seconds.get((crate, True), 0), crate) for crate in self.wanted]
-        for group in (('',), *[group if isinstance(group, tuple) else (group,) for group in GROUPS]):
-            those = [row for row in rows if row[2].startswith(group)]
-            name = ', '.join(f'{begun}*' if begun else 'all' for begun in group)
-            print(f'{name}: {sum(row[0] for row in those) / 60:.0f} minutes, edits {sum(row[1] for row in those) / 60:.0f}')
-        print()
-        for proof, edits, crate in sorted(rows, key=lambda row: -row[0] - row[1]):
-            print(f'{crate} {proof:.0f}' + (f' + {edits:.0f}' if edits else ''))
-
 
 def main():
     parser = argparse.ArgumentParser(description=__doc__.split('\n')[0])
@@ -119,7 +108,7 @@ def main():
     while run.running:
         passed &= run.end()
         run.fill(given.jobs)
-    run.print()
+    print_rows([(run.seconds.get((crate, False), 0), run.seconds.get((crate, True), 0), crate) for crate in run.wanted])
     sys.exit(not passed or bool(run.left))
 
 
